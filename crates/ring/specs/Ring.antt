@@ -5,6 +5,7 @@ use mathlib.Core.Bool.{Bool}
 use Prim.Native.Nat.{ℕ, zero, suc, _≤_, _<_}
 use lib.Dec.{T}
 
+-- The operations are total; what they answer of elements that are not lawful means nothing.
 pub record Ring (E : Type 0) : Type 0 where
   pub depth : ℕ
   pub lawful : E → Bool
@@ -21,16 +22,18 @@ module _ {E : Type 0} (R : Ring E) where
   sum zero f = R .zero
   sum (suc n) f = R .add (sum n f) (f n)
 
+  -- x^n
   unfoldable pub power : E → ℕ → E
   power x zero = R .one
   power x (suc n) = R .mul (power x n) x
 
+  -- u is a unit, and w its inverse
   pub record Unit-of (u w : E) : Type 0 where
     pub left : T (R .lawful u)
     pub right : T (R .lawful w)
     pub product : R .mul u w ≡ R .one
 
-  -- a = step^v × u, with v = depth exactly at zero, and u a unit
+  -- a = step^v × u with u a unit; v is the depth exactly at zero
   pub record Split (a : E) (v : ℕ) (u : E) : Type 0 where
     pub whole : a ≡ R .mul (power (R .step) v) u
     pub low : v ≤ R .depth
@@ -38,7 +41,8 @@ module _ {E : Type 0} (R : Ring E) where
     pub end-zero : v ≡ R .depth → a ≡ R .zero
     pub unit : (w : E) × Unit-of u w
 
-pub record Laws {E : Type 0} (R : Ring E) : Type 0 where
+-- The lawful elements are closed under the operations, and are a commutative ring.
+pub record Ring-laws {E : Type 0} (R : Ring E) : Type 0 where
   pub zero-lawful : T (R .lawful (R .zero))
   pub one-lawful : T (R .lawful (R .one))
   pub step-lawful : T (R .lawful (R .step))
@@ -53,6 +57,10 @@ pub record Laws {E : Type 0} (R : Ring E) : Type 0 where
   pub mul-assoc : (a b c : E) → T (R .lawful a) → T (R .lawful b) → T (R .lawful c) → R .mul (R .mul a b) c ≡ R .mul a (R .mul b c)
   pub mul-one : (a : E) → T (R .lawful a) → R .mul a (R .one) ≡ a
   pub mul-add : (a b c : E) → T (R .lawful a) → T (R .lawful b) → T (R .lawful c) → R .mul a (R .add b c) ≡ R .add (R .mul a b) (R .mul a c)
+
+-- And every one of them is a power of the step times a unit. The step's powers are not zero before the depth, and zero there.
+pub record Laws {E : Type 0} (R : Ring E) : Type 0 where
+  pub ring-laws : Ring-laws R
   pub depth-low : 1 ≤ R .depth
   pub depth-high : R .depth ≤ 31
   pub power-not : (i : ℕ) → i < R .depth → power R (R .step) i ≢ R .zero
