@@ -1,0 +1,9 @@
+pub mod Polynomials
+pub mod Captures
+pub mod Reductions
+pub mod Complete
+pub mod Lift
+pub mod Recurrences
+pub mod Valuations
+pub mod Completes
+pub mod Runs

@@ -1,0 +1,216 @@
+-- The run: the words, continued by the answer of level 0; and what reduction by the answers tells of it.
+use mathlib.Core.Path.{_≡_, refl, sym, ap, ap₂, _∙_, subst}
+use mathlib.Core.Logic.{_↔_}
+use Prim.Native.Nat.{ℕ, zero, suc, _+_, _-_, _*_, _/_, _%_, _<_, _≤_}
+use native.Mathlib.Nat.{mul-add-div-right, mul-add-mod-self-right, mod-eq-of-lt, div-eq-of-lt, mod-lt}
+use native.Mathlib.Decide.{decLt, decLe}
+use native.Mathlib.Omega.{arith}
+use Rattle.ring.specs.Commutative.{CommRing, sum, power}
+use Rattle.recurrence.proofs.Polynomials.{plus, shift, act, run, Obeys}
+use Rattle.recurrence.proofs.Captures.{Capture, Valued, Chain, Below, Leads, Monic, value, Cancels}
+use Rattle.recurrence.proofs.Reductions.{Answer, channel, Run-is-true, Answers, Small, Reduces, none-left, small-left, reduce, Rest-tells, All-reduce}
+use Rattle.ring.proofs.Sums as Sums
+use Rattle.recurrence.proofs.Recurrences as Rec
+use Rattle.recurrence.proofs.Valuations as Valuations
+
+module _ {A : Type 0} (C : Capture A) (chain : Chain C) where
+  infixl 60 _⊕_
+  infixl 70 _⊗_
+  infix 80 ⊖_
+  open Capture C using (ring as R, step, depth as d, words as e, channels as n, at as S)
+  open CommRing R using (𝟘, 𝟙, _⊕_, _⊗_, ⊖_, add-assoc, add-comm, add-zero, add-neg, mul-assoc, mul-comm, mul-one, distrib)
+
+  -- a place by its word and its channel
+  pub word-of : (k c : ℕ) → c < n → (k * n + c) / n ≡ k
+  word-of k c hc = mul-add-div-right (chain .wide) k c ∙ ap (λ z. k + z) (div-eq-of-lt hc) ∙ omega arith
+
+  pub value-at : (m : ℕ) (p : ℕ → A) → m < e → Below C (suc m) p → (k c : ℕ) → c < n → value C p (k * n + c) ≡ act R (suc m) p (λ t. S t c) k
+  unfolding value
+  value-at m p hm below k c hc =
+      let lane : (k * n + c) % n ≡ c = mul-add-mod-self-right k n c ∙ mod-eq-of-lt hc in
+      rw (word-of k c hc, lane) (Rec.act-stretch R (suc m) (suc e) p (λ t. S t c) k (omega arith) below)
+
+  -- to cancel the capture, by words and channels
+  pub cancels-to : (m : ℕ) (p : ℕ → A) → Below C (suc m) p → Cancels C m p → (k c : ℕ) → c < n → k + m < e → act R (suc m) p (λ t. S t c) k ≡ 𝟘
+  cancels-to m p below cancels k c hc hk = sym (value-at m p (omega arith) below k c hc) ∙ cancels (k * n + c) (rw (word-of k c hc) hk)
+
+  pub cancels-from : (m : ℕ) (p : ℕ → A) → Below C (suc m) p → ((k c : ℕ) → c < n → k + m < e → act R (suc m) p (λ t. S t c) k ≡ 𝟘) → Cancels C m p
+  unfolding value
+  cancels-from m p below h r counts =
+      Rec.act-stretch R (suc m) (suc e) p (λ t. S t (r % n)) (r / n) (omega arith) below ∙ h (r / n) (r % n) (mod-lt r (chain .wide)) counts
+
+  -- a finished level goes on as y^k times its answer
+  pub shift-keeps : (i m k : ℕ) (p : ℕ → A) → Monic C i m p → Cancels C m p → Monic C i (k + m) (shift R k p) × Cancels C (k + m) (shift R k p)
+  shift-keeps i m k p monic cancels = (shifted, cancels-from (k + m) (shift R k p) (shifted .below) at)
+    where
+      shifted : Monic C i (k + m) (shift R k p)
+      shifted = record {
+        below = λ j h. Rec.shift-at R k p j (omega arith) ∙ monic .below (j - k) (omega arith);
+        top = Rec.shift-after R k p m ∙ monic .top;
+      }
+
+      at : (w c : ℕ) → c < n → w + (k + m) < e → act R (suc (k + m)) (shift R k p) (λ t. S t c) w ≡ 𝟘
+      at w c hc hw =
+          let whole : k + suc m ≡ suc (k + m) = omega arith in
+          rw (← whole) (Rec.act-shift R k (suc m) p (λ t. S t c) w ∙ cancels-to m p (monic .below) cancels (w + k) c hc (omega arith))
+
+  -- a unit times step^i leads at level i
+  pub one-valued : (i : ℕ) (a : A) → i ≤ d → a ≡ power R step i → Valued C i a
+  one-valued i a h e = record { within = h; unit = 𝟙; inverse = 𝟙; inverts = mul-one 𝟙; is = e ∙ sym (mul-one (power R step i)) }
+
+  pub power-zero : power R step 0 ≡ 𝟙
+  unfolding power
+  power-zero = refl
+
+  pub run-is-true : Run-is-true C
+  run-is-true L p ans w D q half below obeys same c k hc =
+      Rec.agree R L p (channel C L p c) (w c) run-obeys w-obeys (λ t h. Rec.run-begins R L p e (λ i. S i c) t (omega (arith, short)) ∙ same t c (omega (arith, short)) hc) k
+    where
+      short : L ≤ D
+      short =
+          ans .least D q (record { below = below; top = one-valued 0 (q D) (omega arith) (obeys c hc .monic ∙ sym power-zero) })
+          (cancels-from D q below (λ t b hb ht. Rec.act-ext R (suc D) q (λ i. S i b) (w b) t (λ j within. same (t + j) b (omega arith) hb) ∙ obeys b hb .cancels t))
+
+      top : p L ≡ 𝟙
+      top = ans .monic .top ∙ power-zero
+
+      run-obeys : Obeys R L p (channel C L p c)
+      run-obeys = Rec.run-obeys R L p e (λ i. S i c) (omega (arith, short)) top (λ t h. cancels-to L p (ans .monic .below) (ans .cancels) t c hc h)
+
+      w-obeys : Obeys R L p (w c)
+      w-obeys = record {
+        monic = top;
+        cancels = Rec.cancels-on R D q (w c) (obeys c hc) (suc L) p
+            (λ t h. Rec.act-ext R (suc L) p (w c) (λ i. S i c) t (λ j within. sym (same (t + j) c (omega (arith, short)) hc)) ∙ cancels-to L p (ans .monic .below) (ans .cancels) t c hc (omega (arith, short)));
+      }
+
+  module _ (L : ℕ → ℕ) (P : ℕ → ℕ → A) (ans : Answers C L P) where
+    first : Answer C 0 (L 0) (P 0)
+    first = ans .answer 0 (chain .deep)
+
+    -- no level's answer is longer than the monic one
+    pub shorter : (i : ℕ) → i < d → L i ≤ L 0
+    shorter i hi = ans .answer i hi .least (L 0) g leads (λ r counts. Valuations.value-plus C chain none (P 0) x r ∙ Rec.zero-plus-zero R _ _ x (Valuations.value-none C chain none r (λ j _. refl)) (first .cancels r counts))
+      where
+        x : A
+        x = power R step i
+
+        none : ℕ → A
+        none j = 𝟘
+
+        g : ℕ → A
+        g = plus R none x (P 0)
+
+        leads : Leads C i (L 0) g
+        leads = record {
+          below = Valuations.plus-below C chain (suc (L 0)) none (P 0) x (λ j _. refl) (first .monic .below);
+          top = one-valued i (g (L 0)) (omega arith) (Sums.zero-add R _ ∙ ap (λ z. x ⊗ z) (first .monic .top ∙ power-zero) ∙ mul-one x);
+        }
+
+    -- each answer cancels the run
+    pub answer-cancels : (i : ℕ) → i < d → (c t : ℕ) → c < n → act R (suc (L i)) (P i) (channel C (L 0) (P 0) c) t ≡ 𝟘
+    answer-cancels i hi c t hc =
+        Rec.cancels-on R (L 0) (P 0) (channel C (L 0) (P 0) c) obeys (suc (L i)) (P i)
+        (λ k hk. Rec.act-ext R (suc (L i)) (P i) (channel C (L 0) (P 0) c) (λ s. S s c) k
+        (λ j within. Rec.run-begins R (L 0) (P 0) e (λ s. S s c) (k + j) (omega (arith, shorter i hi, ans .half)))
+        ∙ cancels-to (L i) (P i) (ans .answer i hi .monic .below) (ans .answer i hi .cancels) k c hc (omega (arith, shorter i hi, ans .half)))
+        t
+      where
+        obeys : Obeys R (L 0) (P 0) (channel C (L 0) (P 0) c)
+        obeys =
+            Rec.run-obeys R (L 0) (P 0) e (λ s. S s c) (omega (arith, ans .half)) (first .monic .top ∙ power-zero)
+            (λ k h. cancels-to (L 0) (P 0) (first .monic .below) (first .cancels) k c hc h)
+
+    -- y^k p, of degree k + L i
+    shift-below : (k i : ℕ) → i < d → Below C (suc (k + L i)) (shift R k (P i))
+    shift-below k i hi j h = Rec.shift-at R k (P i) j (omega arith) ∙ ans .answer i hi .monic .below (j - k) (omega arith)
+
+    shift-cancels : (N k i : ℕ) → i < d → k + L i < N → (c t : ℕ) → c < n → act R N (shift R k (P i)) (channel C (L 0) (P 0) c) t ≡ 𝟘
+    shift-cancels N k i hi h c t hc =
+        let whole : k + suc (L i) ≡ suc (k + L i) = omega arith in
+        Rec.act-stretch R (suc (k + L i)) N (shift R k (P i)) _ t h (shift-below k i hi)
+        ∙ (rw (← whole) (Rec.act-shift R k (suc (L i)) (P i) _ t ∙ answer-cancels i hi c (t + k) hc))
+
+    -- one step changes nothing on the run
+    step-same : (N i m : ℕ) (f : ℕ → A) (u : A) → i < d → L i ≤ m → m < N → (c t : ℕ) → c < n
+        → act R N (plus R f u (shift R (m - L i) (P i))) (channel C (L 0) (P 0) c) t ≡ act R N f (channel C (L 0) (P 0) c) t
+    step-same N i m f u hi long within c t hc =
+        Rec.act-plus R N f (shift R (m - L i) (P i)) u _ t
+        ∙ ap (λ z. act R N f (channel C (L 0) (P 0) c) t ⊕ u ⊗ z) (shift-cancels N (m - L i) i hi (omega arith) c t hc)
+        ∙ ap (λ z. act R N f (channel C (L 0) (P 0) c) t ⊕ z) (Sums.mul-zero R u) ∙ add-zero _
+
+    -- a polynomial that leads at m has more than m coefficients
+    leads-within : (N i m : ℕ) (f : ℕ → A) → i < d → Leads C i m f → Below C N f → m < N
+    leads-within N i m f hi lead below = at (decLt m N)
+      where
+        at : Dec (m < N) → m < N
+        at (yes h) = h
+        at (no h) = absurd (Valuations.valued-nonzero C chain i (f m) (lead .top) hi (below m (omega arith)))
+
+    small-no : (N : ℕ) (r : ℕ → A) → Below C N r → Small C L r → ¬ ((c t : ℕ) → c < n → act R N r (channel C (L 0) (P 0) c) t ≡ 𝟘)
+    small-no N r below s zero′ = omega (arith, ans .answer i hi .least m r (s .leads) (cancels-from m r (s .leads .below) here), s .small)
+      where
+        i : ℕ
+        i = s .level
+
+        m : ℕ
+        m = s .degree
+
+        hi : i < d
+        hi = s .level-within
+
+        here : (k c : ℕ) → c < n → k + m < e → act R (suc m) r (λ t. S t c) k ≡ 𝟘
+        here k c hc hk =
+            sym (Rec.act-ext R (suc m) r (channel C (L 0) (P 0) c) (λ t. S t c) k (λ j within. Rec.run-begins R (L 0) (P 0) e (λ t. S t c) (k + j) (omega arith)))
+            ∙ sym (Rec.act-stretch R (suc m) N r (channel C (L 0) (P 0) c) k (leads-within N i m r hi (s .leads) below) (s .leads .below)) ∙ zero′ c k hc
+
+    pub tells : (N : ℕ) (r f : ℕ → A) → Reduces C L P r f → Below C N f
+        → ((j : ℕ) → r j ≡ 𝟘) ↔ ((c t : ℕ) → c < n → act R N f (channel C (L 0) (P 0) c) t ≡ 𝟘)
+    tells N r f (none-left z) below = (λ _ c t hc. Rec.act-none R N r _ t (λ j _. z j), λ _. z)
+    tells N r f (small-left s) below = (λ z c t hc. Rec.act-none R N r _ t (λ j _. z j), λ h. absurd (small-no N r below s h))
+    tells N r f (reduce i m hi lead long more) below =
+        let within : m < N = leads-within N i m f hi lead below in
+        let k : ℕ = m - L i in
+        let ih = tells N r _ more (Valuations.plus-below C chain N f (shift R k (P i)) (⊖ lead .top .unit) below (λ j h. shift-below k i hi j (omega arith))) in
+        let same = step-same N i m f (⊖ lead .top .unit) hi long within in
+        (λ z c t hc. sym (same c t hc) ∙ ih .0 z c t hc, λ h. ih .1 (λ c t hc. same c t hc ∙ h c t hc))
+
+    all-step : (N : ℕ) (f : ℕ → A) → Below C (suc N) f → ((g : ℕ → A) → Below C N g → (r : ℕ → A) × Reduces C L P r g) → (r : ℕ → A) × Reduces C L P r f
+    all-step N f below ih = at (decLt i d)
+      where
+        i : ℕ
+        i = chain .level (f N)
+
+        top : Valued C i (f N)
+        top = chain .split (f N)
+
+        lead : Leads C i N f
+        lead = record { below = below; top = top }
+
+        to : i < d → Dec (L i ≤ N) → (r : ℕ → A) × Reduces C L P r f
+        to hi (no h) = (f, small-left (record { level = i; degree = N; level-within = hi; leads = lead; small = omega arith }))
+        to hi (yes h) = (next .0, reduce i N hi lead h (next .1))
+          where
+            k : ℕ
+            k = N - L i
+
+            g : ℕ → A
+            g = plus R f (⊖ top .unit) (shift R k (P i))
+
+            end : shift R k (P i) N ≡ power R step i
+            end = Rec.shift-at R k (P i) N (omega arith) ∙ ap (P i) (omega arith) ∙ ans .answer i hi .monic .top
+
+            top-g : g N ≡ 𝟘
+            top-g = Valuations.cancel-top R (f N) (shift R k (P i) N) (top .unit) (top .is ∙ ap (λ z. z ⊗ top .unit) (sym end))
+
+            next : (r : ℕ → A) × Reduces C L P r g
+            next =
+                ih g (Valuations.below-down C chain N g (Valuations.plus-below C chain (suc N) f (shift R k (P i)) (⊖ top .unit) below (λ j b. shift-below k i hi j (omega arith))) top-g)
+
+        at : Dec (i < d) → (r : ℕ → A) × Reduces C L P r f
+        at (yes h) = to h (decLe (L i) N)
+        at (no h) = ih f (Valuations.below-down C chain N f below (Valuations.valued-zero C chain i (f N) top h))
+
+    pub all-reduce : (N : ℕ) (f : ℕ → A) → Below C N f → (r : ℕ → A) × Reduces C L P r f
+    all-reduce zero f below = (f, none-left (λ j. below j (omega arith)))
+    all-reduce (suc N) f below = all-step N f below (all-reduce N)
