@@ -1,3 +1,4 @@
 pub mod Sums
 pub mod Strong
 pub mod Lifts
+pub mod Units

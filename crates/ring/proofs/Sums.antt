@@ -39,7 +39,7 @@ module _ {A : Type 0} (R : CommRing A) where
   zero-mul x = mul-comm 𝟘 x ∙ mul-zero x
 
   pub regroup : (a b c d : A) → (a ⊕ b) ⊕ (c ⊕ d) ≡ (a ⊕ c) ⊕ (b ⊕ d)
-  regroup a b c d = simp (add-assoc, add-comm, add-left-comm)
+  regroup a b c d = simp (add-assoc, add-left-comm)
 
   pub sum-ext : (n : ℕ) (f g : ℕ → A) → ((j : ℕ) → j < n → f j ≡ g j) → sum R n f ≡ sum R n g
   unfolding sum
