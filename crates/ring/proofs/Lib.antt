@@ -2,3 +2,4 @@ pub mod Sums
 pub mod Strong
 pub mod Lifts
 pub mod Units
+pub mod Rows

@@ -3,7 +3,7 @@ ghost use mathlib.Core.Path.{_≡_};
 ghost use Prim.Native.Nat.{ℕ, _≤_};
 ghost use lib.Dec.{T};
 ghost use Rattle.ring.specs.Ring.{Ring, Laws, Split};
-ghost use Rattle.ring.specs.Refusals.{number};
+ghost use Rattle.ring.specs.Refusals.{number, Call, tests};
 
 // Why a call is not carried out.
 #[derive(Clone, Copy)]
@@ -39,6 +39,19 @@ impl Refusal {
             Refusal::Span => 11,
         }
     }
+}
+
+// The refusal of the first row whose test holds, if one does.
+pub fn first(rows: &[(bool, Refusal)]) -> Result<(), Refusal>
+    ensures { λ r. ⌜ Call (tests (now (rows .entry))) r (λ _. Unit {0}) (Unit {0}) ⌝ }
+{
+    for i in 0..rows.len() {
+        let (fits, refusal) = rows[i];
+        if fits {
+            return Err(refusal);
+        }
+    }
+    Ok(())
 }
 
 // A kind of coefficients. No function of a kind refuses; of elements that are not lawful it may answer anything.
