@@ -1,0 +1,5 @@
+pub mod Memory
+pub mod Polynomials
+pub mod Words
+pub mod Findings
+pub mod Reductions
