@@ -1,0 +1,3 @@
+pub mod Bases
+pub mod Rule
+pub mod Same
