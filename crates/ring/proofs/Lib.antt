@@ -3,3 +3,5 @@ pub mod Strong
 pub mod Lifts
 pub mod Units
 pub mod Rows
+pub mod Convolution
+pub mod Truncated
