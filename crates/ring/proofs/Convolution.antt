@@ -31,7 +31,7 @@ module _ {A : Type 0} (F : CommRing A) where
   product-first k f g =
       Sums.sum-front F (suc k) (λ i. f i ⊗ g (suc k - i))
       ∙ ap₂ _⊕_ (ap (λ (n : ℕ). f 0 ⊗ g n) (let e : suc k - 0 ≡ suc k = omega arith in e))
-        (Sums.sum-ext F (suc k) _ _ (λ i h. ap (λ (n : ℕ). f (suc i) ⊗ g n) (let e : suc k - suc i ≡ k - i = omega arith in e)))
+      (Sums.sum-ext F (suc k) _ _ (λ i h. ap (λ (n : ℕ). f (suc i) ⊗ g n) (let e : suc k - suc i ≡ k - i = omega arith in e)))
 
   -- the last term taken off
   product-last : (k : ℕ) (f g : ℕ → A) → product F f g (suc k) ≡ product F f (tail g) k ⊕ f (suc k) ⊗ g 0
@@ -39,7 +39,7 @@ module _ {A : Type 0} (F : CommRing A) where
   product-last k f g =
       Sums.sum-suc F (suc k) (λ i. f i ⊗ g (suc k - i))
       ∙ ap₂ _⊕_ (Sums.sum-ext F (suc k) _ _ (λ i h. ap (λ (n : ℕ). f i ⊗ g n) (let e : suc k - i ≡ suc (k - i) = omega arith in e)))
-        (ap (λ (n : ℕ). f (suc k) ⊗ g n) (let e : suc k - suc k ≡ 0 = omega arith in e))
+      (ap (λ (n : ℕ). f (suc k) ⊗ g n) (let e : suc k - suc k ≡ 0 = omega arith in e))
 
   pub product-comm : (k : ℕ) (f g : ℕ → A) → product F f g k ≡ product F g f k
   product-comm zero f g = product-zero f g ∙ mul-comm (f 0) (g 0) ∙ sym (product-zero g f)
@@ -74,7 +74,7 @@ module _ {A : Type 0} (F : CommRing A) where
       ∙ ap₂ _⊕_ (ap (λ z. z ⊗ h (suc k)) (product-zero f g) ∙ mul-assoc (f 0) (g 0) (h (suc k))) (product-rest k f g h ∙ ap (λ z. f 0 ⊗ product F (tail g) h k ⊕ z) (product-assoc k (tail f) g h))
       ∙ sym (add-assoc (f 0 ⊗ (g 0 ⊗ h (suc k))) (f 0 ⊗ product F (tail g) h k) (product F (tail f) (product F g h) k))
       ∙ ap (λ z. z ⊕ product F (tail f) (product F g h) k)
-        (sym (distrib (f 0) (g 0 ⊗ h (suc k)) (product F (tail g) h k)) ∙ ap (λ z. f 0 ⊗ z) (sym (product-first k g h)))
+      (sym (distrib (f 0) (g 0 ⊗ h (suc k)) (product F (tail g) h k)) ∙ ap (λ z. f 0 ⊗ z) (sym (product-first k g h)))
       ∙ sym (product-first k f (product F g h))
 
   none-product : (k : ℕ) (g : ℕ → A) → product F (λ _. 𝟘) g k ≡ 𝟘

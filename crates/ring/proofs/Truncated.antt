@@ -40,22 +40,22 @@ module _ {E A : Type 0} (F : CommRing A) {P : Packing E A} {d : ℕ} (ok : Packs
     mul-lawful = λ a b _ _. ok .inside _;
     add-comm = λ a b _ _. ok .first _ _ (λ j h. add-comm (coefficient a j) (coefficient b j));
     add-assoc = λ a b c _ _ _. ok .first _ _ (λ j h.
-      ap (λ z. z ⊕ coefficient c j) (ok .reads _ j h) ∙ add-assoc (coefficient a j) (coefficient b j) (coefficient c j)
-      ∙ ap (λ z. coefficient a j ⊕ z) (sym (ok .reads _ j h)));
+        ap (λ z. z ⊕ coefficient c j) (ok .reads _ j h) ∙ add-assoc (coefficient a j) (coefficient b j) (coefficient c j)
+        ∙ ap (λ z. coefficient a j ⊕ z) (sym (ok .reads _ j h)));
     add-zero = λ a ha. ok .first _ _ (λ j h. ap (λ z. coefficient a j ⊕ z) (ok .reads _ j h) ∙ add-zero (coefficient a j)) ∙ ok .back a ha;
     sub-add = λ a b ha _. ok .first _ _ (λ j h.
-      ap (λ z. z ⊕ coefficient b j) (ok .reads _ j h) ∙ add-assoc (coefficient a j) (⊖ coefficient b j) (coefficient b j)
-      ∙ ap (λ z. coefficient a j ⊕ z) (Sums.neg-add F (coefficient b j)) ∙ add-zero (coefficient a j)) ∙ ok .back a ha;
+        ap (λ z. z ⊕ coefficient b j) (ok .reads _ j h) ∙ add-assoc (coefficient a j) (⊖ coefficient b j) (coefficient b j)
+        ∙ ap (λ z. coefficient a j ⊕ z) (Sums.neg-add F (coefficient b j)) ∙ add-zero (coefficient a j)) ∙ ok .back a ha;
     mul-comm = λ a b _ _. ok .first _ _ (λ j h. product-comm F j (coefficient a) (coefficient b));
     mul-assoc = λ a b c _ _ _. ok .first _ _ (λ j h.
-      cut-left (product F (coefficient a) (coefficient b)) (coefficient c) j h
-      ∙ product-assoc F j (coefficient a) (coefficient b) (coefficient c)
-      ∙ sym (cut-right (coefficient a) (product F (coefficient b) (coefficient c)) j h));
+        cut-left (product F (coefficient a) (coefficient b)) (coefficient c) j h
+        ∙ product-assoc F j (coefficient a) (coefficient b) (coefficient c)
+        ∙ sym (cut-right (coefficient a) (product F (coefficient b) (coefficient c)) j h));
     mul-one = λ a ha. ok .first _ _ (λ j h.
-      cut-right (coefficient a) (monomial F 0) j h ∙ product-comm F j (coefficient a) (monomial F 0) ∙ one-product F j (coefficient a)) ∙ ok .back a ha;
+        cut-right (coefficient a) (monomial F 0) j h ∙ product-comm F j (coefficient a) (monomial F 0) ∙ one-product F j (coefficient a)) ∙ ok .back a ha;
     mul-add = λ a b c _ _ _. ok .first _ _ (λ j h.
-      cut-right (coefficient a) _ j h ∙ product-add F j (coefficient a) (coefficient b) (coefficient c)
-      ∙ sym (ap₂ _⊕_ (ok .reads (product F (coefficient a) (coefficient b)) j h) (ok .reads (product F (coefficient a) (coefficient c)) j h)));
+        cut-right (coefficient a) _ j h ∙ product-add F j (coefficient a) (coefficient b) (coefficient c)
+        ∙ sym (ap₂ _⊕_ (ok .reads (product F (coefficient a) (coefficient b)) j h) (ok .reads (product F (coefficient a) (coefficient c)) j h)));
   }
 
   -- step^i is x^i
@@ -71,7 +71,7 @@ module _ {E A : Type 0} (F : CommRing A) {P : Packing E A} {d : ℕ} (ok : Packs
 
   step-lasts : 𝟙 ≢ 𝟘 → (i : ℕ) → i < d → power (truncated F P d) (pack (monomial F 1)) i ≢ pack (λ _. 𝟘)
   step-lasts distinct i h e = distinct
-    (sym (ok .reads (monomial F i) i h ∙ monomial-same F i) ∙ ap (λ z. coefficient z i) (sym (step-power i) ∙ e) ∙ ok .reads (λ _. 𝟘) i h)
+      (sym (ok .reads (monomial F i) i h ∙ monomial-same F i) ∙ ap (λ z. coefficient z i) (sym (step-power i) ∙ e) ∙ ok .reads (λ _. 𝟘) i h)
 
   -- an element whose constant has an inverse is a unit
   pub constant-unit : (u : E) (b : A) → T (lawful u) → coefficient u 0 ⊗ b ≡ 𝟙 → (w : E) × Unit-of (truncated F P d) u w
@@ -80,14 +80,18 @@ module _ {E A : Type 0} (F : CommRing A) {P : Packing E A} {d : ℕ} (ok : Packs
     where
       constant : ℕ → A
       constant j = b ⊗ monomial F 0 j
+
       rest : ℕ → A
       rest j = ⊖ (b ⊗ coefficient u (suc j))
+
       times : (j : ℕ) → j < d → product F (coefficient u) (coefficient (pack constant)) j ≡ b ⊗ coefficient u j
       times j h =
           cut-right (coefficient u) constant j h ∙ product-comm F j (coefficient u) constant
           ∙ product-scale F j b (monomial F 0) (coefficient u) ∙ ap (λ z. b ⊗ z) (one-product F j (coefficient u))
+
       moved : (j : ℕ) → j < d → product F (coefficient (pack (monomial F 1))) (coefficient (pack rest)) j ≡ product F (monomial F 1) rest j
       moved j h = cut-left (monomial F 1) _ j h ∙ cut-right (monomial F 1) rest j h
+
       whole : (j : ℕ) → b ⊗ coefficient u j ⊕ product F (monomial F 1) rest j ≡ monomial F 0 j
       whole zero = ap₂ _⊕_ (mul-comm b (coefficient u 0) ∙ e) (monomial-below F 1 0 rest (omega arith)) ∙ add-zero 𝟙
       whole (suc j) =
@@ -109,11 +113,11 @@ module _ {E A : Type 0} (F : CommRing A) {P : Packing E A} {d : ℕ} (ok : Packs
 
   -- an element whose lowest nonzero coefficient is that of x^v, and is u's constant, splits into step^v and u
   pub split-at : 𝟙 ≢ 𝟘 → (a u : E) (v : ℕ) (b : A) → v < d → T (lawful a) → T (lawful u)
-    → ((j : ℕ) → j < v → coefficient a j ≡ 𝟘) → ((j : ℕ) → v ≤ j → j < d → coefficient a j ≡ coefficient u (j - v))
-    → coefficient a v ⊗ b ≡ 𝟙 → Split (truncated F P d) a v u
+      → ((j : ℕ) → j < v → coefficient a j ≡ 𝟘) → ((j : ℕ) → v ≤ j → j < d → coefficient a j ≡ coefficient u (j - v))
+      → coefficient a v ⊗ b ≡ 𝟙 → Split (truncated F P d) a v u
   split-at distinct a u v b hv ha hu below from unit = record {
     whole = sym (ap (λ z. pack (product F (coefficient z) (coefficient u))) (step-power v)
-      ∙ ok .first _ _ (λ j h. cut-left (monomial F v) (coefficient u) j h ∙ at j h (decLt j v)) ∙ ok .back a ha);
+        ∙ ok .first _ _ (λ j h. cut-left (monomial F v) (coefficient u) j h ∙ at j h (decLt j v)) ∙ ok .back a ha);
     low = omega arith;
     zero-end = λ z. absurd (nonzero z);
     end-zero = λ z. absurd (omega arith);
@@ -123,6 +127,7 @@ module _ {E A : Type 0} (F : CommRing A) {P : Packing E A} {d : ℕ} (ok : Packs
       at : (j : ℕ) → j < d → Dec (j < v) → product F (monomial F v) (coefficient u) j ≡ coefficient a j
       at j h (yes lt) = monomial-below F v j (coefficient u) lt ∙ sym (below j lt)
       at j h (no ge) = monomial-from F v j (coefficient u) (omega arith) ∙ sym (from j (omega arith) h)
+
       nonzero : a ≢ pack (λ _. 𝟘)
       nonzero z = distinct (sym unit ∙ ap (λ y. y ⊗ b) (ap (λ y. coefficient y v) z ∙ ok .reads _ v hv) ∙ Sums.zero-mul F b)
 
@@ -156,7 +161,9 @@ module _ {E A : Type 0} (F : CommRing A) {P : Packing E A} {d : ℕ} (ok : Packs
     where
       split : (a : E) → T (lawful a) → Lowest (coefficient a) d → (v : ℕ) × (u : E) × Split (truncated F P d) a v u
       split a ha (inl none) = (d, pack (monomial F 0), split-zero low a (sym (ok .back a ha) ∙ ok .first _ _ none))
-      split a ha (inr h) =
-          (h .0, pack (λ j. coefficient a (h .0 + j)),
-           split-at distinct a (pack (λ j. coefficient a (h .0 + j))) (h .0) (h .3 .0) (h .1) ha (ok .inside _) (h .2)
-             (λ j le lt. ap (coefficient a) (omega arith) ∙ sym (ok .reads _ (j - h .0) (omega arith))) (h .3 .1))
+      split a ha (inr h) = (
+        h .0,
+        pack (λ j. coefficient a (h .0 + j)),
+        split-at distinct a (pack (λ j. coefficient a (h .0 + j))) (h .0) (h .3 .0) (h .1) ha (ok .inside _) (h .2)
+            (λ j le lt. ap (coefficient a) (omega arith) ∙ sym (ok .reads _ (j - h .0) (omega arith))) (h .3 .1),
+      )
