@@ -1,8 +1,9 @@
 // Coefficient kinds: finite chain rings, known by their meaning and their laws; and the refusals of the whole library.
+ghost use mathlib.Core.Logic.{_↔_};
 ghost use mathlib.Core.Path.{_≡_};
 ghost use Prim.Native.Nat.{ℕ, _≤_};
 ghost use lib.Dec.{T};
-ghost use Rattle.ring.specs.Ring.{Ring, Laws, Split};
+ghost use Rattle.ring.specs.Ring.{Ring, Laws, Split, «Unit-of»};
 ghost use Rattle.ring.specs.Refusals.{number, Call, tests};
 
 // Why a call is not carried out.
@@ -100,4 +101,12 @@ pub trait Kind: Copy {
     fn same(&self, other: &Self) -> bool
         ensures yes { λ r. ⌜ (T r → now (self .entry) ≡ now (other .entry)) ⌝ }
         ensures only { λ r. ⌜ (now (self .entry) ≡ now (other .entry) → T r) ⌝ };
+}
+
+// Whether a lawful element is a unit.
+pub fn is_unit<K: Kind>(kind: &K, a: K::Elem) -> bool
+    ensures { λ r. ⌜ (T (K·Kind .ring (now (kind .entry)) .lawful a) → T r ↔ ((w : K·Elem) × «Unit-of» (K·Kind .ring (now (kind .entry))) a w)) ⌝ }
+{
+    let (valuation, _) = kind.split(a);
+    valuation == 0
 }
