@@ -30,17 +30,22 @@ module _ {A : Type 0} (R : CommRing A) where
     where
       e : A
       e = p ⊗ near .rest
+
       h : u ⊗ w ⊕ e ≡ 𝟙
       h = near .eq
+
       c-is : c ≡ 𝟙 ⊕ e
       c-is =
           let both : c ⊕ u ⊗ w ≡ (𝟙 ⊕ e) ⊕ u ⊗ w
-                = k ∙ ap (λ x. 𝟙 ⊕ x) (sym h) ∙ simp (add-assoc, add-comm) in
+          = k ∙ ap (λ x. 𝟙 ⊕ x) (sym h) ∙ simp (add-assoc, add-comm) in
           sym (Sums.from-sum R (sym both)) ∙ Sums.from-sum R refl
+
       expand : u ⊗ (w ⊗ (𝟙 ⊕ e)) ⊕ e ⊗ e ≡ u ⊗ (w ⊗ 𝟙) ⊕ (u ⊗ w ⊕ e) ⊗ e
       expand = simp (distrib, Sums.distrib-right R, mul-assoc, Sums.mul-left-comm R, add-assoc, add-comm)
+
       square : p ⊗ p ⊗ (near .rest ⊗ near .rest) ≡ e ⊗ e
       square = simp (mul-assoc, Sums.mul-left-comm R)
+
       whole : u ⊗ (w ⊗ c) ⊕ p ⊗ p ⊗ (near .rest ⊗ near .rest) ≡ 𝟙
       whole =
           ap₂ (λ x y. u ⊗ (w ⊗ x) ⊕ y) c-is square ∙ expand
@@ -52,6 +57,7 @@ module _ {A : Type 0} (R : CommRing A) where
     where
       expand : u ⊗ (v ⊕ p ⊗ (more .rest ⊗ w)) ⊕ p ⊗ s ⊗ (more .rest ⊗ one .rest) ≡ u ⊗ v ⊕ p ⊗ more .rest ⊗ (u ⊗ w ⊕ s ⊗ one .rest)
       expand = simp (distrib, mul-assoc, mul-comm, Sums.mul-left-comm R, add-assoc)
+
       whole : u ⊗ (v ⊕ p ⊗ (more .rest ⊗ w)) ⊕ p ⊗ s ⊗ (more .rest ⊗ one .rest) ≡ 𝟙
       whole = expand ∙ ap (λ x. u ⊗ v ⊕ p ⊗ more .rest ⊗ x) (one .eq) ∙ ap (λ x. u ⊗ v ⊕ x) (mul-one (p ⊗ more .rest)) ∙ more .eq
 
@@ -74,6 +80,7 @@ module _ {A : Type 0} (R : CommRing A) where
       cancel =
           ap (λ x. (u ⊕ s ⊗ t) ⊗ w ⊕ x) (Sums.mul-neg R s (t ⊗ w))
           ∙ Sums.from-sum R (Sums.distrib-right R u (s ⊗ t) w ∙ ap (λ x. u ⊗ w ⊕ x) (mul-assoc s t w))
+
       whole : (u ⊕ s ⊗ t) ⊗ w ⊕ s ⊗ (⊖ (t ⊗ w)) ≡ 𝟙
       whole = cancel ∙ e
 
@@ -120,38 +127,50 @@ module _ {E : Type 0} (R : Ring E) (L : Ring-laws R) (ends : power R (R .step) (
 
   -- a turn of the loop that inverts, from what the calls of a kind ensure: r = w (2 - u w)
   pub inverts-twice : (u w two x c r : E) (n : ℕ) → T (R .lawful u)
-    → (T (R .lawful (R .one)) → T (R .lawful (R .one)) → two ≡ R .add (R .one) (R .one))
-    → (T (R .lawful u) → T (R .lawful w) → x ≡ R .mul u w)
-    → (T (R .lawful two) → T (R .lawful x) → c ≡ R .sub two x)
-    → (T (R .lawful w) → T (R .lawful c) → r ≡ R .mul w c)
-    → Inverts u w n → Inverts u r (n + n)
+      → (T (R .lawful (R .one)) → T (R .lawful (R .one)) → two ≡ R .add (R .one) (R .one))
+      → (T (R .lawful u) → T (R .lawful w) → x ≡ R .mul u w)
+      → (T (R .lawful two) → T (R .lawful x) → c ≡ R .sub two x)
+      → (T (R .lawful w) → T (R .lawful c) → r ≡ R .mul w c)
+      → Inverts u w n → Inverts u r (n + n)
   inverts-twice u w two x c r n hu two-is x-is c-is r-is h =
       record { lawful = lawful-r; rest = next .rest .0; rest-lawful = next .rest .1; eq = whole }
     where
       W : Lawful
       W = (w, h .lawful)
+
       e-two : two ≡ R .add (R .one) (R .one)
       e-two = two-is (L .one-lawful) (L .one-lawful)
+
       e-x : x ≡ R .mul u w
       e-x = x-is hu (h .lawful)
+
       ok-two : T (R .lawful two)
       ok-two = moved e-two (L .add-lawful _ _ (L .one-lawful) (L .one-lawful))
+
       ok-x : T (R .lawful x)
       ok-x = moved e-x (L .mul-lawful u w hu (h .lawful))
+
       e-c : c ≡ R .sub two x
       e-c = c-is ok-two ok-x
+
       ok-c : T (R .lawful c)
       ok-c = moved e-c (L .sub-lawful two x ok-two ok-x)
+
       e-r : r ≡ R .mul w c
       e-r = r-is (h .lawful) ok-c
+
       lawful-r : T (R .lawful r)
       lawful-r = moved e-r (L .mul-lawful w c (h .lawful) ok-c)
+
       left : R .add c (R .mul u w) ≡ R .add (R .one) (R .one)
       left = ap₂ (R .add) e-c (sym e-x) ∙ L .sub-add two x ok-two ok-x ∙ e-two
+
       next : Near ring (u, hu) (R .mul w c, L .mul-lawful w c (h .lawful) ok-c) (ring ._⊗_ (powerˡ ring step n) (powerˡ ring step n))
       next = newton ring (u, hu) W (powerˡ ring step n) (c, ok-c) (near u w n hu h) (same-element R left)
+
       both : ring ._⊗_ (powerˡ ring step n) (powerˡ ring step n) .0 ≡ power R (R .step) (n + n)
       both = ap (λ z. z .0) (sym (Sums.power-add ring step n n)) ∙ power-same (n + n)
+
       whole : R .add (R .mul u r) (R .mul (power R (R .step) (n + n)) (next .rest .0)) ≡ R .one
       whole = ap₂ (λ y z. R .add (R .mul u y) (R .mul z (next .rest .0))) e-r (sym both) ∙ ap (λ z. z .0) (next .eq)
 
@@ -159,11 +178,11 @@ module _ {E : Type 0} (R : Ring E) (L : Ring-laws R) (ends : power R (R .step) (
   pub inverts-whole : (u w v : E) (n : ℕ) → T (R .lawful u) → R .depth ≤ n → Inverts u w n → T (R .lawful v) → R .mul u v ≡ R .one → w ≡ v
   inverts-whole u w v n hu le h hv e =
       ap (λ x. x .0) (inverse-unique ring (u, hu) (w, h .lawful) (v, hv)
-        (near-whole ring (u, hu) (w, h .lawful) (powerˡ ring step n) (power-ends n le) (near u w n hu h)) (same-element R e))
+      (near-whole ring (u, hu) (w, h .lawful) (powerˡ ring step n) (power-ends n le) (near u w n hu h)) (same-element R e))
 
   -- what has an inverse modulo the step is a unit
   pub unit-modulo : (u w t : E) → T (R .lawful u) → T (R .lawful w) → T (R .lawful t)
-    → R .add (R .mul u w) (R .mul (R .step) t) ≡ R .one → (v : E) × Unit-of R u v
+      → R .add (R .mul u w) (R .mul (R .step) t) ≡ R .one → (v : E) × Unit-of R u v
   unit-modulo u w t hu hw ht e =
       let first : Near ring (u, hu) (w, hw) step = record { rest = (t, ht); eq = same-element R e } in
       let r = near-power ring (u, hu) (w, hw) step first (R .depth) in
@@ -175,4 +194,4 @@ module _ {E : Type 0} (R : Ring E) (L : Ring-laws R) (ends : power R (R .step) (
   unit-plus u w t h ht =
       let s = near-add ring (u, h .left) (w, h .right) step (t, ht) (same-element R (h .product)) in
       unit-modulo (R .add u (R .mul (R .step) t)) w (s .rest .0) (L .add-lawful _ _ (h .left) (L .mul-lawful _ _ (L .step-lawful) ht)) (h .right) (s .rest .1)
-        (ap (λ x. x .0) (s .eq))
+      (ap (λ x. x .0) (s .eq))

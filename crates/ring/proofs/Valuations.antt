@@ -31,12 +31,12 @@ module _ {E : Type 0} {R : Ring E} (L : Laws R) where
   unfolding lifted step-of
   not-less a u x v w one other less =
       L .power-not (R .depth - w + v) (omega (arith, other .low))
-        (Lifts.power-is L (R .depth - w + v) .eq
-         ∙ ap (λ z. z .0)
-           (power-vanishes (lifted L) (step-of L) (u, one .unit .1 .left) (one .unit .0, one .unit .1 .right) (x, other .unit .1 .left) v w (R .depth) (other .low)
-             (same L (sym (Lifts.power-is L (R .depth) .eq) ∙ L .power-end))
-             (same L (one .unit .1 .product))
-             (same L (ap (λ z. R .mul z u) (sym (Lifts.power-is L v .eq)) ∙ sym (one .whole) ∙ other .whole ∙ ap (λ z. R .mul z x) (Lifts.power-is L w .eq)))))
+      (Lifts.power-is L (R .depth - w + v) .eq
+      ∙ ap (λ z. z .0)
+      (power-vanishes (lifted L) (step-of L) (u, one .unit .1 .left) (one .unit .0, one .unit .1 .right) (x, other .unit .1 .left) v w (R .depth) (other .low)
+      (same L (sym (Lifts.power-is L (R .depth) .eq) ∙ L .power-end))
+      (same L (one .unit .1 .product))
+      (same L (ap (λ z. R .mul z u) (sym (Lifts.power-is L v .eq)) ∙ sym (one .whole) ∙ other .whole ∙ ap (λ z. R .mul z x) (Lifts.power-is L w .eq)))))
 
   pub valuation-unique : (a u x : E) (v w : ℕ) → Split R a v u → Split R a w x → v ≡ w
   valuation-unique a u x v w one other =
@@ -57,10 +57,11 @@ module _ {E : Type 0} {R : Ring E} (L : Laws R) where
     where
       deep : 0 ≡ R .depth → ⊥
       deep e = omega (arith, L .depth-low)
+
       nonzero : a ≡ R .zero → ⊥
       nonzero e =
           L .power-not 0 (omega (arith, L .depth-low))
-            (sym (h .product) ∙ ap (λ z. R .mul z w) e ∙ ap (λ z. z .0) (Sums.zero-mul (lifted L) (w, h .right)))
+          (sym (h .product) ∙ ap (λ z. R .mul z w) e ∙ ap (λ z. z .0) (Sums.zero-mul (lifted L) (w, h .right)))
 
   -- what splits with valuation 0 is a unit
   pub split-unit : (a u : E) → Split R a 0 u → (w : E) × Unit-of R a w
