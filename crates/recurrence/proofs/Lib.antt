@@ -7,3 +7,8 @@ pub mod Recurrences
 pub mod Valuations
 pub mod Completes
 pub mod Runs
+pub mod Bridge
+pub mod Continuations
+pub mod Rows
+pub mod Rests
+pub mod Findings

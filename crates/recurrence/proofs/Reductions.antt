@@ -1,10 +1,9 @@
 -- Answers by level, the run that the answer of level 0 continues, and reduction by the answers.
 use mathlib.Core.Path.{_≡_}
-use mathlib.Core.Logic.{_↔_, _⊎_}
-use Prim.Native.Nat.{ℕ, suc, _+_, _-_, _<_, _≤_}
+use Prim.Native.Nat.{ℕ, _+_, _-_, _<_, _≤_}
 use Rattle.ring.specs.Commutative.{CommRing}
-use Rattle.recurrence.proofs.Polynomials.{plus, shift, act, run, Obeys}
-use Rattle.recurrence.proofs.Captures.{Capture, Chain, Below, Leads, Monic, Cancels}
+use Rattle.recurrence.proofs.Polynomials.{plus, shift, run}
+use Rattle.recurrence.proofs.Captures.{Capture, Leads, Monic, Cancels}
 
 module _ {A : Type 0} (C : Capture A) where
   infix 80 ⊖_
@@ -20,13 +19,6 @@ module _ {A : Type 0} (C : Capture A) where
   -- channel c, continued by the monic polynomial p of degree L
   abbrev pub channel : ℕ → (ℕ → A) → ℕ → ℕ → A
   channel L p c = run R L p e (λ k. S k c)
-
-  -- if the words are of a sequence that obeys a short enough recurrence, the run is that sequence
-  abbrev pub Run-is-true : Type 0
-  Run-is-true = (L : ℕ) (p : ℕ → A) → Answer 0 L p
-      → (w : ℕ → ℕ → A) (D : ℕ) (q : ℕ → A) → D + D ≤ e → Below C (suc D) q → ((c : ℕ) → c < n → Obeys R D q (w c))
-      → ((k c : ℕ) → k < e → c < n → S k c ≡ w c k)
-      → (c k : ℕ) → c < n → channel L p c k ≡ w c k
 
   -- the answers of all levels, found by a long enough capture
   pub record Answers (L : ℕ → ℕ) (P : ℕ → ℕ → A) : Type 0 where
@@ -47,12 +39,3 @@ module _ {A : Type 0} (C : Capture A) where
     small-left : Small L r → Reduces L P r r
     reduce : {f : ℕ → A} (i m : ℕ) → i < d → (lead : Leads C i m f) → L i ≤ m
         → Reduces L P r (plus R f (⊖ (lead .top .unit)) (shift R (m - L i) (P i))) → Reduces L P r f
-
-  -- the rest is zero just if the polynomial cancels the run
-  abbrev pub Rest-tells : Type 0
-  Rest-tells = (L : ℕ → ℕ) (P : ℕ → ℕ → A) → Answers L P → (N : ℕ) (f r : ℕ → A) → Below C N f → Reduces L P r f
-      → ((j : ℕ) → r j ≡ 𝟘) ↔ ((c t : ℕ) → c < n → act R N f (channel (L 0) (P 0) c) t ≡ 𝟘)
-
-  -- and every polynomial is reduced to some rest
-  abbrev pub All-reduce : Type 0
-  All-reduce = (L : ℕ → ℕ) (P : ℕ → ℕ → A) → Answers L P → (N : ℕ) (f : ℕ → A) → Below C N f → (r : ℕ → A) × Reduces L P r f

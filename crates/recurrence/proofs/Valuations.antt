@@ -99,6 +99,11 @@ module _ {A : Type 0} (C : Capture A) (chain : Chain C) where
   pub valued-nonzero : (w : ℕ) (a : A) → Valued C w a → w < d → a ≢ 𝟘
   valued-nonzero w a y h e = valued-least d w a (omega arith) (multiple-zero d a e) y h
 
+  -- an element has one valuation
+  pub valued-once : (v w : ℕ) (a : A) → Valued C v a → Valued C w a → v ≡ w
+  valued-once v w a x y =
+      omega (arith, valued-least v w a (x .within) (valued-multiple v a x) y, valued-least w v a (y .within) (valued-multiple w a y) x)
+
   pub below-down : (m : ℕ) (p : ℕ → A) → Below C (suc m) p → p m ≡ 𝟘 → Below C m p
   below-down m p below e j h = at (decLt m j)
     where

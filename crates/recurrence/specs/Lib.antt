@@ -3,3 +3,4 @@ pub mod Polynomials
 pub mod Words
 pub mod Findings
 pub mod Reductions
+pub mod Theorems

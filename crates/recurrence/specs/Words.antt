@@ -4,10 +4,10 @@ use mathlib.Core.Bool.{cond}
 use mathlib.Core.List.{List}
 use Prim.Native.Nat.{ℕ, zero, suc, _+_, _-_, _*_, _<_, _≤_}
 use lib.Dec.{T, ltb}
-use Rattle.ring.specs.Ring.{Ring, sum}
+use Rattle.ring.specs.Ring.{Ring, sum, power}
 use Rattle.recurrence.specs.declared.shape.Shape.{Shape}
 use Rattle.recurrence.specs.Memory.{at}
-use Rattle.recurrence.specs.Polynomials.{Lawful, Degree, Leads, value}
+use Rattle.recurrence.specs.Polynomials.{Lawful, Within, Degree, Leads, value}
 
 -- where channel c of word k lies in the memory of a capture
 abbrev pub place : Shape → ℕ → ℕ → ℕ
@@ -38,6 +38,14 @@ module _ {E : Type 0} (R : Ring E) where
       pub lawful : Lawful R polynomial
       pub leads : Leads R i L polynomial
       pub cancels : Cancels polynomial
+      pub least : Least i L
+
+    -- p is a shortest polynomial of level i: of degree L, with leading coefficient step^i, it cancels the words, and no shorter one of its level does
+    pub record Shortest (i L : ℕ) (p : ℕ → E) : Type 0 where
+      pub lawful : Lawful R p
+      pub above : Within R (suc L) p
+      pub top : p L ≡ power R (R .step) i
+      pub cancels : Cancels p
       pub least : Least i L
 
   module _ (e : ℕ) (S : ℕ → ℕ → E) (L : ℕ) (p : ℕ → E) where
