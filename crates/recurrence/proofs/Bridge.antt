@@ -1,5 +1,5 @@
 -- Raw polynomials and words, and the same among lawful elements.
-use mathlib.Core.Path.{_≡_, refl, sym, ap, ap₂, _∙_, subst}
+use mathlib.Core.Path.{_≡_, refl, sym, ap, _∙_, subst}
 use mathlib.Core.Logic.{_≢_, _⊎_, inl, inr}
 use mathlib.Core.Bool.{cond}
 use Prim.Native.Nat.{ℕ, zero, suc, _+_, _-_, _*_, _<_, _≤_}
@@ -8,15 +8,14 @@ use native.Mathlib.Decide.{decLt}
 use native.Mathlib.Omega.{arith}
 use borrow.Author.Tests.{lt-ltb, le-ltb}
 use lib.Dec.{T}
-use Rattle.ring.specs.Ring.{Ring, Laws, Split}
-use Rattle.ring.specs.Commutative.{CommRing}
+use Rattle.ring.specs.Ring.{Ring, Laws, Split, power}
 use Rattle.ring.specs.Lawful.{Lawful as Element, Is, same, lifted, hold}
 use Rattle.ring.proofs.Lifts as Lifts
 use Rattle.ring.proofs.Sums as Sums
 use Rattle.recurrence.specs.Polynomials.{Lawful, Zero, Within, Degree, Leads, value, shift}
 use Rattle.recurrence.specs.Words.{Lawful-words, Cancels, Least}
-use Rattle.recurrence.proofs.Polynomials.{act, plus, shift as shiftˡ}
-use Rattle.recurrence.proofs.Captures.{Capture, Chain, Valued, Below, Leads as Leadsˡ, Cancels as Cancelsˡ}
+use Rattle.recurrence.proofs.Polynomials.{act, shift as shiftˡ}
+use Rattle.recurrence.proofs.Captures.{Capture, Chain, Valued, Below, Monic, Leads as Leadsˡ, Cancels as Cancelsˡ}
 use Rattle.recurrence.proofs.Recurrences as Rec
 use Rattle.recurrence.proofs.Valuations as Valuations
 use Rattle.recurrence.proofs.Runs as Runs
@@ -107,6 +106,10 @@ module _ {E : Type 0} {R : Ring E} (L : Laws R) where
   pub degree-of : (v m : ℕ) (p : ℕ → E) → Leads R v m p → Degree R m p
   degree-of v m p lead = record { above = lead .above; top = λ z. let h = lead .top .zero-end z in absurd (omega (arith, h, lead .within)) }
 
+  -- step^i is not zero
+  pub normal-degree : (i m : ℕ) (p : ℕ → E) → i < R .depth → Within R (suc m) p → p m ≡ power R (R .step) i → Degree R m p
+  normal-degree i m p hi above top = record { above = above; top = λ z. L .power-not i hi (sym top ∙ z) }
+
   pub degree-once : (m m′ : ℕ) (p : ℕ → E) → Degree R m p → Degree R m′ p → m ≡ m′
   degree-once m m′ p d d′ = by (decLt m m′) (decLt m′ m)
     where
@@ -143,6 +146,12 @@ module _ {E : Type 0} {R : Ring E} (L : Laws R) where
 
     pub within-from : (m : ℕ) (f : ℕ → Element L) → Below C m f → Within R m (raw f)
     within-from m f h j b = from-zero (raw-is (f j)) (h j b)
+
+    pub monic-to : (i m : ℕ) (p : ℕ → E) → Lawful R p → Within R (suc m) p → p m ≡ power R (R .step) i → Monic C i m (lift p)
+    monic-to i m p ok above top = record {
+      below = below-to (suc m) p (lift p) (lift-is p ok) above;
+      top = Lifts.held L (Lifts.is-same L top (Lifts.power-is L i));
+    }
 
     abbrev pub leads-to : (i m : ℕ) (p : ℕ → E) → Lawful R p → Leads R i m p → Leadsˡ C i m (lift p)
     leads-to i m p ok h = record {

@@ -2,7 +2,7 @@
 use mathlib.Core.Path.{_≡_}
 use mathlib.Core.Logic.{_≢_}
 use Prim.Native.Nat.{ℕ, suc, _+_, _/_, _%_, _<_, _≤_}
-use Rattle.ring.specs.Commutative.{CommRing, sum, power}
+use Rattle.ring.specs.Commutative.{CommRing, power}
 use Rattle.recurrence.proofs.Polynomials.{act}
 
 -- e words of n channels over a ring, and the ring's element step, whose power d is zero

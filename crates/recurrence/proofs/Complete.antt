@@ -1,7 +1,7 @@
 -- What makes the polynomials kept enough, over any capture: v q is the valuation kept at the place q, the depth where nothing is kept.
 use mathlib.Core.Path.{_≡_}
 use mathlib.Core.Logic.{_⊎_}
-use Prim.Native.Nat.{ℕ, suc, _+_, _/_, _<_, _≤_}
+use Prim.Native.Nat.{ℕ, _+_, _/_, _<_, _≤_}
 use Rattle.ring.specs.Commutative.{CommRing}
 use Rattle.recurrence.proofs.Captures.{Capture, Below, Leads, Monic, Multiple, Valued, value, First, Cancels}
 

@@ -1,16 +1,15 @@
 -- What is kept stays complete, and a stuck polynomial is the best of its degree and level.
-use mathlib.Core.Path.{_≡_, refl, sym, ap, ap₂, _∙_, subst}
-use mathlib.Core.Logic.{_≢_, _⊎_, inl, inr}
-use Prim.Native.Nat.{ℕ, zero, suc, _+_, _-_, _*_, _/_, _%_, _<_, _≤_}
+use mathlib.Core.Path.{_≡_, sym, ap, _∙_, subst}
+use mathlib.Core.Logic.{inl, inr}
+use Prim.Native.Nat.{ℕ, suc, _+_, _/_, _<_, _≤_}
 use native.Mathlib.Decide.{decLt, decLe}
 use native.Mathlib.Omega.{arith}
-use Rattle.ring.specs.Commutative.{CommRing, sum, power}
-use Rattle.recurrence.proofs.Polynomials.{plus, shift}
+use Rattle.ring.specs.Commutative.{CommRing, power}
+use Rattle.recurrence.proofs.Polynomials.{plus}
 use Rattle.recurrence.proofs.Captures.{Capture, Valued, Chain, Multiple, Below, Leads, Monic, value, Counts, Zeros, First, Cancels, Best}
 use Rattle.recurrence.proofs.Complete.{Stuck, Round}
 use Rattle.recurrence.proofs.Reductions.{Answer}
 use Rattle.ring.proofs.Sums as Sums
-use Rattle.recurrence.proofs.Recurrences as Rec
 use Rattle.recurrence.proofs.Valuations as Valuations
 use Rattle.recurrence.proofs.Complete.{Complete, None-below}
 

@@ -6,7 +6,6 @@ use native.Mathlib.Decide.{decLt}
 use native.Mathlib.Omega.{arith}
 use borrow.Author.Tests.{lt-ltb, le-ltb}
 use Rattle.ring.specs.Ring.{Ring, Laws, sum}
-use Rattle.ring.specs.Commutative.{CommRing}
 use Rattle.ring.specs.Lawful.{Is, lifted, hold}
 use Rattle.ring.proofs.Lifts as Lifts
 use Rattle.ring.proofs.Sums as Sums

@@ -1,24 +1,23 @@
 -- What a finding tells of its capture and its run.
-use mathlib.Core.Path.{_≡_, refl, sym, ap, _∙_, subst}
+use mathlib.Core.Path.{_≡_, sym, ap, _∙_, subst}
 use mathlib.Core.Logic.{_⊎_, inl, inr, _↔_}
 use mathlib.Core.Bool.{Bool, true, false}
 use mathlib.Core.List.{List}
-use Prim.Native.Nat.{ℕ, suc, _+_, _-_, _*_, _<_, _≤_}
+use Prim.Native.Nat.{ℕ, suc, _+_, _*_, _<_, _≤_}
 use native.Mathlib.Omega.{arith}
 use lib.Dec.{T}
-use Rattle.ring.specs.Ring.{Ring, Laws, Split, power}
-use Rattle.ring.specs.Commutative.{CommRing}
+use Rattle.ring.specs.Ring.{Ring, Laws, Split}
 use Rattle.ring.specs.Lawful.{Lawful as Element, Is, lifted, hold}
 use Rattle.ring.proofs.Lifts as Lifts
 use Rattle.recurrence.specs.declared.shape.Level.{Level}
 use Rattle.recurrence.specs.Memory.{at, Unlawful}
 use Rattle.recurrence.specs.Polynomials.{Lawful, Zero, Within, Degree, Leads, value, Obeys}
-use Rattle.recurrence.specs.Words.{Lawful-words, Cancels, Length, Shortest, run, Cancels-run}
-use Rattle.recurrence.specs.Findings.{long, extent, row, Formed, Finding}
+use Rattle.recurrence.specs.Words.{Lawful-words, Length, Shortest, run, Cancels-run}
+use Rattle.recurrence.specs.Findings.{long, extent, row}
 use Rattle.recurrence.specs.Reductions.{Rest}
 use Rattle.recurrence.specs.Theorems.{Recurrence-settles, Run-continues, Lengths-fall, Stands, Rows-shortest, Rows-cancel-run, Rest-tells, Rest-exists, Run-foretells}
 use Rattle.recurrence.proofs.Polynomials.{act, Obeys as Obeysˡ}
-use Rattle.recurrence.proofs.Captures.{Capture, Chain, Below}
+use Rattle.recurrence.proofs.Captures.{Capture, Chain}
 use Rattle.recurrence.proofs.Reductions.{Answer, Answers, channel}
 use Rattle.recurrence.proofs.Recurrences as Rec
 use Rattle.recurrence.proofs.Runs as Runs
@@ -71,11 +70,8 @@ module _ {E : Type 0} {R : Ring E} (L : Laws R) where
     -- a shortest polynomial is an answer
     pub answer : (i l : ℕ) (p : ℕ → E) → i < R .depth → Shortest R n e S i l p → Answer C i l (Bridge.lift L p)
     answer i l p hi s = record {
-      monic = record {
-        below = Bridge.below-to L n e S wide (suc l) p (Bridge.lift L p) (Bridge.lift-is L p (s .lawful)) (s .above);
-        top = Lifts.held L (Lifts.is-same L (s .top) (Lifts.power-is L i));
-      };
-      cancels = Bridge.cancels-to L n e S wide ok l p (s .lawful) (record { above = s .above; top = λ z. L .power-not i hi (sym (s .top) ∙ z) }) (s .cancels);
+      monic = Bridge.monic-to L n e S wide i l p (s .lawful) (s .above) (s .top);
+      cancels = Bridge.cancels-to L n e S wide ok l p (s .lawful) (Bridge.normal-degree L i l p hi (s .above) (s .top)) (s .cancels);
       least = Bridge.least-to L n e S wide ok i l hi (s .least);
     }
 

@@ -12,3 +12,5 @@ pub mod Continuations
 pub mod Rows
 pub mod Rests
 pub mod Findings
+pub mod Stores
+pub mod Writes

@@ -1,6 +1,6 @@
 -- Words of raw elements as a capture over the lawful ones, and what the laws of a kind say there.
-use mathlib.Core.Path.{_≡_, refl, sym, ap, _∙_}
-use Prim.Native.Nat.{ℕ, _<_, _≤_}
+use mathlib.Core.Path.{refl, sym, ap, _∙_}
+use Prim.Native.Nat.{ℕ, _<_}
 use native.Mathlib.Omega.{arith}
 use Rattle.ring.specs.Ring.{Ring, Laws, Split}
 use Rattle.ring.specs.Lawful.{Lawful, Is, same, lifted, step-of, hold, level-of}

@@ -3,7 +3,7 @@ use mathlib.Core.Path.{_≡_, refl, sym, ap, ap₂, _∙_}
 use Prim.Native.Nat.{ℕ, zero, suc, _+_, _-_, _<_, _≤_}
 use native.Mathlib.Decide.{decLt}
 use native.Mathlib.Omega.{arith}
-use Rattle.ring.specs.Commutative.{CommRing, sum, power}
+use Rattle.ring.specs.Commutative.{CommRing, sum}
 use Rattle.recurrence.proofs.Polynomials.{choose, plus, shift, act, rounds, run, Obeys}
 use Rattle.ring.proofs.Sums as Sums
 use Rattle.ring.proofs.Strong.{strong}

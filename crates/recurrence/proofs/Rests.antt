@@ -1,17 +1,16 @@
 -- Rests over raw elements are rests among the lawful ones, and back.
 use mathlib.Core.Path.{_≡_, refl, sym, ap, _∙_, subst, fun-ext}
 use mathlib.Core.Logic.{_⊎_, inl, inr}
-use Prim.Native.Nat.{ℕ, suc, _+_, _-_, _<_, _≤_}
+use Prim.Native.Nat.{ℕ, suc, _-_, _<_}
 use native.Mathlib.Omega.{arith}
 use lib.Dec.{T}
 use Rattle.ring.specs.Ring.{Ring, Laws, power}
-use Rattle.ring.specs.Commutative.{CommRing}
 use Rattle.ring.specs.Lawful.{Lawful as Element, Is, lifted, hold}
 use Rattle.ring.proofs.Lifts as Lifts
-use Rattle.recurrence.specs.Polynomials.{Lawful, Zero, Within, Degree, Leads, shift}
+use Rattle.recurrence.specs.Polynomials.{Lawful, Zero, Within, Degree, Leads}
 use Rattle.recurrence.specs.Reductions.{Step, Irreducible, Rest, done, more}
 use Rattle.recurrence.proofs.Polynomials.{plus, shift as shiftˡ}
-use Rattle.recurrence.proofs.Captures.{Capture, Chain, Below, Monic}
+use Rattle.recurrence.proofs.Captures.{Capture, Chain, Monic}
 use Rattle.recurrence.proofs.Reductions.{Small, Reduces, none-left, small-left, reduce}
 use Rattle.recurrence.proofs.Runs as Runs
 use Rattle.recurrence.proofs.Lift.{capture, chain-of, unit-is}
@@ -40,10 +39,7 @@ module _ {E : Type 0} {R : Ring E} (L : Laws R) (n e : ℕ) (S : ℕ → ℕ →
     Q i = Bridge.lift L (P i)
 
     pub monic : (i : ℕ) → i < R .depth → Monic C i (l i) (Q i)
-    monic i hi = record {
-      below = Bridge.below-to L n e S wide (suc (l i)) (P i) (Q i) (Bridge.lift-is L (P i) (lawful i hi)) (above i hi);
-      top = Lifts.held L (Lifts.is-same L (top i hi) (Lifts.power-is L i));
-    }
+    monic i hi = Bridge.monic-to L n e S wide i (l i) (P i) (lawful i hi) (above i hi) (top i hi)
 
     -- one step, the two ways
     module _ (f g : ℕ → E) (ok : Lawful R f) (step : Step R l P f g) where

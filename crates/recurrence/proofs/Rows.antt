@@ -1,11 +1,11 @@
 -- The rows of a finding.
-use mathlib.Core.Path.{_≡_, refl, sym, ap, _∙_, subst}
+use mathlib.Core.Path.{_≡_, sym, _∙_, subst}
 use mathlib.Core.List.{List}
 use Prim.Native.Nat.{ℕ, suc, _+_, _*_, _<_, _≤_}
 use native.Mathlib.Decide.{decLt}
 use native.Mathlib.Omega.{arith}
 use lib.Dec.{T}
-use lib.ListN.{length, getD, take, drop, List·getD-eq-default, length-take}
+use lib.ListN.{take, drop, List·getD-eq-default, length-take}
 use lib.Seq.{getD-take, getD-drop}
 use Rattle.ring.specs.Ring.{Ring, Laws, power}
 use Rattle.recurrence.specs.declared.shape.Level.{Level}
@@ -38,7 +38,7 @@ module _ {E : Type 0} (R : Ring E) (e : ℕ) (levels : List Level) (fm : List E)
             (lawful _ (Bridge.place-below (R .depth) (e + 1) i j hi (omega (arith, formed .short i hi))))
 
     pub row-degree : Laws R → (i : ℕ) → i < R .depth → Degree R (long levels i) (row R e levels fm i)
-    row-degree L i hi = record { above = row-past i; top = λ z. L .power-not i hi (sym (row-top i hi) ∙ z) }
+    row-degree L i hi = Bridge.normal-degree L i (long levels i) (row R e levels fm i) hi (row-past i) (row-top i hi)
 
   -- the rows of a finding are shortest polynomials
   pub row-shortest : Laws R → (n : ℕ) (S : ℕ → ℕ → E) → Finding R e levels fm n S → (i : ℕ) → i < R .depth → Shortest R n e S i (long levels i) (row R e levels fm i)

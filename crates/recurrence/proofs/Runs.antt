@@ -1,12 +1,12 @@
 -- The run: the words, continued by the answer of level 0; and what reduction by the answers tells of it.
-use mathlib.Core.Path.{_≡_, refl, sym, ap, ap₂, _∙_, subst}
+use mathlib.Core.Path.{_≡_, refl, sym, ap, _∙_}
 use mathlib.Core.Logic.{_↔_}
 use Prim.Native.Nat.{ℕ, zero, suc, _+_, _-_, _*_, _/_, _%_, _<_, _≤_}
 use native.Mathlib.Nat.{mul-add-div-right, mul-add-mod-self-right, mod-eq-of-lt, div-eq-of-lt, mod-lt}
 use native.Mathlib.Decide.{decLt, decLe}
 use native.Mathlib.Omega.{arith}
-use Rattle.ring.specs.Commutative.{CommRing, sum, power}
-use Rattle.recurrence.proofs.Polynomials.{choose, plus, shift, act, run, Obeys}
+use Rattle.ring.specs.Commutative.{CommRing, power}
+use Rattle.recurrence.proofs.Polynomials.{choose, plus, shift, act, Obeys}
 use Rattle.recurrence.proofs.Captures.{Capture, Valued, Chain, Below, Leads, Monic, value, Cancels}
 use Rattle.recurrence.proofs.Reductions.{Answer, channel, Answers, Small, Reduces, none-left, small-left, reduce}
 use Rattle.ring.proofs.Sums as Sums

@@ -1,15 +1,15 @@
 -- Valuations, multiples of a power of the step, and values at places.
-use mathlib.Core.Path.{_≡_, refl, sym, ap, ap₂, _∙_, subst}
+use mathlib.Core.Path.{_≡_, sym, ap, ap₂, _∙_}
 use mathlib.Core.Logic.{_≢_}
-use Prim.Native.Nat.{ℕ, zero, suc, _+_, _-_, _*_, _/_, _%_, _<_, _≤_}
+use Prim.Native.Nat.{ℕ, zero, suc, _+_, _-_, _/_, _%_, _<_, _≤_}
 use native.Mathlib.Nat.{le-div-iff-mul-le, div-mul-le-self, le-trans}
 use native.Mathlib.Decide.{decLt}
 use native.Mathlib.Omega.{arith}
-use Rattle.ring.specs.Commutative.{CommRing, sum, power}
+use Rattle.ring.specs.Commutative.{CommRing, power}
 use Rattle.recurrence.proofs.Captures.{Capture, Valued, Chain, Multiple, Below, value}
 use Rattle.recurrence.proofs.Polynomials.{plus}
 use Rattle.ring.proofs.Sums as Sums
-use Rattle.recurrence.proofs.Recurrences.{act-plus, act-none}
+use Rattle.recurrence.proofs.Recurrences.{act-plus, act-none, zero-plus-zero}
 
 pub div-mono : (n a b : ℕ) → 0 < n → a ≤ b → a / n ≤ b / n
 div-mono n a b pos h = le-div-iff-mul-le {k = n} pos .1 (le-trans (div-mul-le-self a n) h)
@@ -112,7 +112,7 @@ module _ {A : Type 0} (C : Capture A) (chain : Chain C) where
       at (no k) = let same : j ≡ m = omega arith in ap p same ∙ e
 
   pub plus-below : (m : ℕ) (p f : ℕ → A) (c : A) → Below C m p → Below C m f → Below C m (plus R p c f)
-  plus-below m p f c hp hf j h = ap₂ (λ a b. a ⊕ c ⊗ b) (hp j h) (hf j h) ∙ Sums.zero-add R (c ⊗ 𝟘) ∙ Sums.mul-zero R c
+  plus-below m p f c hp hf j h = zero-plus-zero R (p j) (f j) c (hp j h) (hf j h)
 
   abbrev val : (ℕ → A) → ℕ → A
   val = value C
@@ -127,4 +127,4 @@ module _ {A : Type 0} (C : Capture A) (chain : Chain C) where
 
   -- zero plus a multiple of zero
   pub value-plus-zero : (p f : ℕ → A) (c : A) (q : ℕ) → val p q ≡ 𝟘 → val f q ≡ 𝟘 → val (plus R p c f) q ≡ 𝟘
-  value-plus-zero p f c q hp hf = value-plus p f c q ∙ ap₂ (λ a b. a ⊕ c ⊗ b) hp hf ∙ Sums.zero-add R (c ⊗ 𝟘) ∙ Sums.mul-zero R c
+  value-plus-zero p f c q hp hf = value-plus p f c q ∙ zero-plus-zero R (val p q) (val f q) c hp hf

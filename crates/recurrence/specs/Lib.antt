@@ -3,4 +3,5 @@ pub mod Polynomials
 pub mod Words
 pub mod Findings
 pub mod Reductions
+pub mod Store
 pub mod Theorems

@@ -2,7 +2,7 @@
 use mathlib.Core.Path.{_≡_}
 use mathlib.Core.Logic.{_↔_}
 use mathlib.Core.List.{List}
-use Prim.Native.Nat.{ℕ, _+_, _-_, _*_, _<_, _≤_}
+use Prim.Native.Nat.{ℕ, suc, _+_, _-_, _*_, _<_, _≤_}
 use Rattle.ring.specs.Ring.{Ring, sum}
 use Rattle.recurrence.specs.declared.shape.Level.{Level}
 use Rattle.recurrence.specs.Memory.{Unlawful}
@@ -10,6 +10,7 @@ use Rattle.recurrence.specs.Polynomials.{Lawful, Zero, Within, value, Obeys}
 use Rattle.recurrence.specs.Words.{Lawful-words, Length, Shortest, run}
 use Rattle.recurrence.specs.Findings.{long, Settled, extent, row, Formed, run-of, Cancels-run-of, Finding}
 use Rattle.recurrence.specs.Reductions.{Rest}
+use Rattle.recurrence.specs.Store.{Normal, Complete, Stuck, Best, Keeps}
 
 module _ {E : Type 0} (R : Ring E) where
   -- What cancels as many places of a list as a recurrence that the list obeys is long cancels all of them.
@@ -29,6 +30,15 @@ module _ {E : Type 0} (R : Ring E) where
   Run-continues = (e : ℕ) (S : ℕ → ℕ → E) (L : ℕ) (p : ℕ → E) → L ≤ e → (c : ℕ)
       → Continues e (S c) L p (run R e S L p c)
       × ((w : ℕ → E) → Continues e (S c) L p w → (k : ℕ) → w k ≡ run R e S L p c k)
+
+  -- Where what is kept is complete below degree s, a stuck polynomial of degree s and leading coefficient step^i is the best of its degree and
+  -- level; and with one for each level kept as well, it is complete below degree s + 1. (Below degree 0 anything is.)
+  abbrev pub Store-stands : Type 0
+  Store-stands = (n e : ℕ) (S : ℕ → ℕ → E) → 0 < n → Lawful-words R n e S
+      → (s : ℕ) (v : ℕ → ℕ) → ((q : ℕ) → v q ≤ R .depth) → Complete R n e S s v
+      → (p : ℕ → ℕ → E) → ((i : ℕ) → i < R .depth → Normal R i s (p i) × Stuck R n e S s v (p i))
+      → ((i : ℕ) → i < R .depth → Best R n e S i s (p i))
+      × ((v′ : ℕ → ℕ) → Keeps R n e S s v p v′ → Complete R n e S (suc s) v′)
 
   -- Lengths do not grow from level to level, and are at most e; so a level has one length.
   abbrev pub Lengths-fall : Type 0

@@ -1,6 +1,6 @@
 // Recurrences over chain rings: what a capture, a finding, a run and a reduction mean, and the theorems about them.
 // Each theorem is the contract of a function that computes nothing: to call it is to have the theorem.
-ghost use Rattle.recurrence.specs.Theorems.{«Recurrence-settles», «Run-continues», «Lengths-fall», «Rows-shortest», «Rows-cancel-run», «Rest-tells», «Rest-exists», «Run-foretells»};
+ghost use Rattle.recurrence.specs.Theorems.{«Recurrence-settles», «Run-continues», «Lengths-fall», «Rows-shortest», «Rows-cancel-run», «Rest-tells», «Rest-exists», «Run-foretells», «Store-stands»};
 
 mod shape;
 
@@ -48,4 +48,9 @@ pub fn rest_exists<K: Kind>(kind: &K)
 // A list that obeys a monic polynomial of degree D, and of which 2D words or more are held, is the run.
 pub fn run_foretells<K: Kind>(kind: &K)
     ensures { λ _. ⌜ «Run-foretells» (K·Kind .ring (now (kind .entry))) ⌝ }
+{}
+
+// What is kept is complete from degree to degree, and a stuck polynomial is the best of its degree and level.
+pub fn store_stands<K: Kind>(kind: &K)
+    ensures { λ _. ⌜ «Store-stands» (K·Kind .ring (now (kind .entry))) ⌝ }
 {}
