@@ -6,3 +6,4 @@ pub mod Valuations
 pub mod Rows
 pub mod Convolution
 pub mod Truncated
+pub mod Loops
