@@ -110,3 +110,11 @@ pub fn is_unit<K: Kind>(kind: &K, a: K::Elem) -> bool
     let (valuation, _) = kind.split(a);
     valuation == 0
 }
+
+// Whether a lawful element is zero.
+pub fn is_zero<K: Kind>(kind: &K, a: K::Elem) -> bool
+    ensures { λ r. ⌜ (T (K·Kind .ring (now (kind .entry)) .lawful a) → T r ↔ (a ≡ K·Kind .ring (now (kind .entry)) .zero)) ⌝ }
+{
+    let (valuation, _) = kind.split(a);
+    valuation == kind.depth()
+}
