@@ -1,0 +1,4 @@
+pub mod Sums
+pub mod Binary
+pub mod Units
+pub mod Same
