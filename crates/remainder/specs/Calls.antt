@@ -67,8 +67,8 @@ module _ {E : Type 0} (R : Ring E) (s : Shape) where
     abbrev pub Tried : List E → Result ℕ Refusal → List E → Type 0
     Tried f r f′ =
         Call (trying f) r
-          (λ n. Rest R (long levels) (row R (s .count .words) levels fm) (at R f′) (at R f) × (length f′ ≡ length f) × Coefficients R n (at R f′))
-          (f′ ≡ f)
+        (λ n. Rest R (long levels) (row R (s .count .words) levels fm) (at R f′) (at R f) × (length f′ ≡ length f) × Coefficients R n (at R f′))
+        (f′ ≡ f)
 
     abbrev pub running-on : List E → List E → List Row
     running-on ws out =
@@ -82,7 +82,7 @@ module _ {E : Type 0} (R : Ring E) (s : Shape) where
     abbrev pub Ran-on : List E → List E → Result Unit Refusal → List E → Type 0
     Ran-on ws out r out′ =
         Call (running-on ws out) r
-          (λ _. (length out′ ≡ length out)
-              × ((t c : ℕ) → c < s .channels → t * s .channels + c < length out
-                  → at R out′ (t * s .channels + c) ≡ run-of R (s .count .words) levels fm (words R s ws) c (s .count .words + t)))
-          (out′ ≡ out)
+        (λ _. (length out′ ≡ length out)
+        × ((t c : ℕ) → c < s .channels → t * s .channels + c < length out
+        → at R out′ (t * s .channels + c) ≡ run-of R (s .count .words) levels fm (words R s ws) c (s .count .words + t)))
+        (out′ ≡ out)
