@@ -1,3 +1,4 @@
 pub mod Writing
 pub mod Held
 pub mod Turns
+pub mod Obeying

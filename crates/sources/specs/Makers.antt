@@ -36,11 +36,11 @@ module _ {E : Type 0} (R : Ring E) where
   abbrev pub strided : ℕ → (ℕ → E) → ℕ → E
   strided m w t = cond (eqb m 0) (R .zero) (w (m * t))
 
-  -- each element times c; zeros where c is not lawful
-  abbrev pub scaled : E → (ℕ → E) → ℕ → E
-  scaled c w t = cond (R .lawful c) (R .mul c (w t)) (R .zero)
-
 module _ {E : Type 0} {R : Ring E} (L : Laws R) where
   -- the sums of two lists of one kind, those of the second as far as they are lawful; zeros of lists that are not of one kind
   abbrev pub summed : Bool → (ℕ → E) → (ℕ → E) → ℕ → E
   summed alike v w t = cond alike (R .add (v t) (hold L (w t) .0)) (R .zero)
+
+  -- each element times c, as far as c is lawful
+  abbrev pub scaled : E → (ℕ → E) → ℕ → E
+  scaled c w t = R .mul (hold L c .0) (w t)

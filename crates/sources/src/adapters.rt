@@ -3,6 +3,7 @@ ghost use mathlib.Core.Path.{_≡_};
 ghost use Prim.Native.Nat.{ℕ, _+_, _*_};
 ghost use lib.Dec.{T};
 ghost use Rattle.ring.specs.Refusals.{Call};
+ghost use Rattle.recurrence.specs.Polynomials.{Obeys};
 ghost use Rattle.sources.specs.Makers.{Makes, stride-rows, sum-rows, scaling-rows, strided, summed, scaled};
 use crate::Source;
 use crate::hold;
@@ -32,12 +33,13 @@ pub struct Stride<S> {
 }
 
 impl<S> Stride<S> {
-    // The stride by m; of an m that is refused, zeros.
+    // The stride by m; of an m that is refused, zeros. A stride by 1 obeys what its source obeys.
     pub fn new<K: Kind>(inner: S, m: usize) -> Stride<S>
     where
         S: Source<K>,
         ensures inner { λ r. ⌜ r .inner ≡ inner ⌝ }
         ensures list { λ r. ⌜ Makes (stride-rows m) (K·Kind .ring (kindOf inner)) (λ t. list inner (m * t)) (strided (K·Kind .ring (kindOf (r .inner))) (r .step) (list (r .inner))) ⌝ }
+        ensures obeys { λ r. ⌜ ((D : ℕ) (q : ℕ → K·Elem) → m ≡ 1 → Obeys (K·Kind .ring (kindOf inner)) D q (list inner) → Obeys (K·Kind .ring (kindOf inner)) D q (strided (K·Kind .ring (kindOf (r .inner))) (r .step) (list (r .inner)))) ⌝ }
     {
         let step = if check_stride(m).is_ok() { m } else { 0 };
         Stride { inner, step }
@@ -100,7 +102,7 @@ pub struct Sum<A, B> {
 }
 
 impl<A, B> Sum<A, B> {
-    // The sum of two sources; of two that are refused, zeros of the first one's kind.
+    // The sum of two sources; of two that are refused, zeros of the first one's kind. It obeys what both of them obey.
     pub fn new<K: Kind>(a: A, b: B) -> Sum<A, B>
     where
         A: Source<K>,
@@ -108,6 +110,8 @@ impl<A, B> Sum<A, B> {
         ensures parts { λ r. ⌜ (r .a ≡ a) × (r .b ≡ b) ⌝ }
         ensures list { λ r. ⌜ Makes (sum-rows (A·Source .kindOf a) (B·Source .kindOf b)) (K·Kind .ring (A·Source .kindOf a)) (λ t. K·Kind .ring (A·Source .kindOf a) .add (A·Source .list a t) (B·Source .list b t))
             (summed (K·Kind .laws (A·Source .kindOf (r .a))) (r .alike) (A·Source .list (r .a)) (B·Source .list (r .b))) ⌝ }
+        ensures obeys { λ r. ⌜ ((D : ℕ) (q : ℕ → K·Elem) → Obeys (K·Kind .ring (A·Source .kindOf a)) D q (A·Source .list a) → Obeys (K·Kind .ring (A·Source .kindOf a)) D q (B·Source .list b)
+            → Obeys (K·Kind .ring (A·Source .kindOf a)) D q (summed (K·Kind .laws (A·Source .kindOf (r .a))) (r .alike) (A·Source .list (r .a)) (B·Source .list (r .b)))) ⌝ }
     {
         let alike = a.kind().same(&b.kind());
         Sum { a, b, alike }
@@ -162,15 +166,17 @@ pub struct Scaling<S, E> {
 }
 
 impl<S, E> Scaling<S, E> {
-    // The source scaled by c; by a c that is refused, zeros.
+    // The source scaled by c; by a c that is refused, zeros. It obeys what its source obeys.
     pub fn new<K: Kind<Elem = E>>(inner: S, c: E) -> Scaling<S, E>
     where
         S: Source<K>,
         ensures inner { λ r. ⌜ r .inner ≡ inner ⌝ }
         ensures list { λ r. ⌜ Makes (scaling-rows (K·Kind .ring (kindOf inner)) c) (K·Kind .ring (kindOf inner)) (λ t. K·Kind .ring (kindOf inner) .mul c (list inner t))
-            (scaled (K·Kind .ring (kindOf (r .inner))) (r .by) (list (r .inner))) ⌝ }
+            (scaled (K·Kind .laws (kindOf (r .inner))) (r .by) (list (r .inner))) ⌝ }
+        ensures obeys { λ r. ⌜ ((D : ℕ) (q : ℕ → E) → Obeys (K·Kind .ring (kindOf inner)) D q (list inner) → Obeys (K·Kind .ring (kindOf inner)) D q (scaled (K·Kind .laws (kindOf (r .inner))) (r .by) (list (r .inner)))) ⌝ }
     {
-        Scaling { inner, by: c }
+        let by = hold(&inner.kind(), c);
+        Scaling { inner, by }
     }
 }
 
@@ -187,7 +193,7 @@ impl<S, E: Drop> Scaling<S, E> {
 pub impl<K: Kind, S: Source<K>> Source<K> for Scaling<S, K::Elem> as ScalingSource {
     ghost kindOf = { λ s. S·Source .kindOf (s .inner) };
 
-    ghost list = { λ s t. scaled (K·Kind .ring (S·Source .kindOf (s .inner))) (s .by) (S·Source .list (s .inner)) t };
+    ghost list = { λ s t. scaled (K·Kind .laws (S·Source .kindOf (s .inner))) (s .by) (S·Source .list (s .inner)) t };
 
     fn kind(&self) -> K {
         self.inner.kind()
@@ -196,10 +202,7 @@ pub impl<K: Kind, S: Source<K>> Source<K> for Scaling<S, K::Elem> as ScalingSour
     fn next(&mut self) -> K::Elem {
         let kind = self.inner.kind();
         let word = self.inner.next();
-        if kind.is_lawful(self.by) {
-            kind.mul(self.by, word)
-        } else {
-            kind.zero()
-        }
+        let by = hold(&kind, self.by);
+        kind.mul(by, word)
     }
 }

@@ -1,5 +1,6 @@
 use mathlib.Core.Path.{refl, sym, _∙_}
 use Rattle.sources.proofs.Held.{sum-makes}
+use Rattle.sources.proofs.Obeying.{summed-obeys}
 use Rattle.sources.proofs.adapters.Sum.new.Needs as need
 
 pub returns : need.returns
@@ -13,4 +14,6 @@ returns g c =
       list = sum-makes (g .K·Kind .ring) (g .K·Kind .laws) j k (c .same-alike .result)
           (λ t. sym is ∙ c .same-alike .ensures .yes t ∙ is-2) (λ e. c .same-alike .ensures .only (is ∙ e ∙ sym is-2))
           (g .A·Source .list (c .args .a)) (g .B·Source .list (c .args .b)) (c .kind-2 .ensures .lawful);
+      obeys = λ D q. summed-obeys (g .K·Kind .laws j) D q (c .same-alike .result) (g .A·Source .list (c .args .a)) (g .B·Source .list (c .args .b)) (c .kind .ensures .lawful)
+          (λ t. let l = c .kind-2 .ensures .lawful in rw (sym is ∙ c .same-alike .ensures .yes t ∙ is-2) l);
     }
