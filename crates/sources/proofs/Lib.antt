@@ -1,4 +1,3 @@
-pub mod Writing
 pub mod Held
 pub mod Turns
 pub mod Obeying

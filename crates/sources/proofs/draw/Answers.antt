@@ -2,7 +2,7 @@ use mathlib.Core.Path.{_≡_, ap, _∙_}
 use Prim.Native.Nat.{_+_}
 use native.Mathlib.Nat.{add-zero}
 use native.Mathlib.Omega.{arith}
-use Rattle.sources.proofs.Writing.{written-more}
+use Rattle.recurrence.proofs.Writes.{written-more}
 use Rattle.sources.proofs.draw.Needs as need
 
 pub loop-i-again : need.loop-i-again
