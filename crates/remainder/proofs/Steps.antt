@@ -1,38 +1,28 @@
 -- The turns of reduction, from what the calls ensure.
 use mathlib.Core.Path.{_≡_, refl, sym, ap, ap₂, _∙_, subst}
-use mathlib.Core.Logic.{_≢_}
 use mathlib.Core.Bool.{Bool, cond}
 use mathlib.Core.List.{List}
-use Prim.Native.Nat.{ℕ, zero, suc, _+_, _-_, _*_, _<_, _≤_}
+use Prim.Native.Nat.{ℕ, _+_, _-_, _*_, _<_, _≤_}
 use native.Mathlib.Decide.{decLt}
 use native.Mathlib.Omega.{arith}
-use borrow.Author.Count.{below-more}
 use borrow.Author.Tests.{lt-ltb, le-ltb}
 use lib.Dec.{T, ltb}
-use lib.ListN.{length, getD, set, take, drop, length-set, List·getD-eq-default}
-use lib.Seq.{getD-set-same, getD-set-other}
-use Rattle.std.proofs.shelf.Lists.{getD-read}
+use lib.ListN.{length, getD, set, take, drop, List·getD-eq-default}
 use Rattle.ring.specs.Ring.{Ring, Laws, power, Split}
-use Rattle.ring.proofs.Valuations.{valuation-unique}
+use Rattle.ring.proofs.Loops.{lawful-at}
 use Rattle.recurrence.specs.declared.shape.Shape.{Shape}
 use Rattle.recurrence.specs.declared.shape.Level.{Level}
 use Rattle.recurrence.specs.Polynomials.{Lawful, Within, Leads, shift}
 use Rattle.recurrence.specs.Memory.{at, Written}
 use Rattle.recurrence.specs.Findings.{long, row}
-use Rattle.recurrence.specs.Reductions.{Step, Irreducible, Rest, done, more, Coefficients}
+use Rattle.recurrence.specs.Reductions.{Step, Rest, done, more, Coefficients}
+use Rattle.recurrence.proofs.Rests.{zero-irreducible, small-irreducible}
+use Rattle.recurrence.proofs.Rows as Rows
+use Rattle.recurrence.proofs.Writes.{written-more}
+use Rattle.memory.proofs.Elements.{read-at}
 use Rattle.remainder.specs.Judging.{Sound, taken}
 use Rattle.remainder.proofs.Elements as Elements
 use Rattle.remainder.proofs.Forms as Forms
-
--- one element more is written
-pub written-more : {E : Type 0} (old new : List E) (from i : ℕ) (f : ℕ → E) (x : E) → from + i < length new → x ≡ f i
-    → Written old new from i f → Written old (set new (from + i) x) from (i + 1) f
-written-more old new from i f x h e w = record {
-  size = length-set new (from + i) x ∙ w .size;
-  there = below-more _ _ (λ k b d. let ne : from + k ≢ from + i = omega arith in rw getD-set-other (w .there k b d)) (λ d. getD-set-same new (from + i) x d h ∙ e);
-  before = λ k b d. let ne : k ≢ from + i = omega arith in rw getD-set-other (w .before k b d);
-  after = λ k b d. let ne : k ≢ from + i = omega arith in rw getD-set-other (w .after k (omega arith) d);
-}
 
 module _ {E : Type 0} {R : Ring E} (L : Laws R) where
   -- one coefficient more is taken away
@@ -41,26 +31,12 @@ module _ {E : Type 0} {R : Ring E} (L : Laws R) where
       → (T (R .lawful u) → T (R .lawful y) → p ≡ R .mul u y) → (T (R .lawful x) → T (R .lawful p) → r ≡ R .sub x p)
       → Written old new k i (taken R (at R old) k u (at R row)) → Written old (set new (k + i) r) k (i + 1) (taken R (at R old) k u (at R row))
   taken-more old new row k i u x y p r hi size hr ex ey hu ho hw ep er w =
-      let x-at : x ≡ at R old (k + i) = getD-read new (k + i) x (omega arith) ex (R .zero) ∙ w .after (k + i) (omega arith) (R .zero) in
-      let y-at : y ≡ at R row i = getD-read row i y hr ey (R .zero) in
-      let ly = Elements.moved L y-at (hw i) in
+      let x-at : x ≡ at R old (k + i) = read-at R new (k + i) x (omega arith) ex ∙ w .after (k + i) (omega arith) (R .zero) in
+      let y-at : y ≡ at R row i = read-at R row i y hr ey in
+      let ly = lawful-at L y-at (hw i) in
       let p-is = ep hu ly in
-      let lp = Elements.moved L p-is (L .ring-laws .mul-lawful u y hu ly) in
-      written-more old new k i _ r (omega arith) (er (Elements.moved L x-at (ho (k + i))) lp ∙ ap₂ (R .sub) x-at (p-is ∙ ap (R .mul u) y-at)) w
-
-  -- a polynomial has one degree and one level
-  pub leads-once : (v m v′ m′ : ℕ) (f : ℕ → E) → Leads R v m f → Leads R v′ m′ f → (v ≡ v′) × (m ≡ m′)
-  leads-once v m v′ m′ f one other = at′ (decLt m m′) (decLt m′ m)
-    where
-      top : (w k : ℕ) (h : Leads R w k f) → f k ≢ R .zero
-      top w k h z = omega (arith, h .within, h .top .zero-end z)
-
-      at′ : Dec (m < m′) → Dec (m′ < m) → (v ≡ v′) × (m ≡ m′)
-      at′ (yes h) _ = absurd (top v′ m′ other (one .above m′ h))
-      at′ (no h) (yes h′) = absurd (top v m one (other .above m h′))
-      at′ (no h) (no h′) =
-          let e : m ≡ m′ = omega arith in
-          (valuation-unique L (f m) (one .unit) (other .unit) v v′ (one .top) (subst (λ (k : ℕ). Split R (f k) v′ (other .unit)) (sym e) (other .top)), e)
+      let lp = lawful-at L p-is (L .ring-laws .mul-lawful u y hu ly) in
+      written-more old new k i _ r (omega arith) (er (lawful-at L x-at (ho (k + i))) lp ∙ ap₂ (R .sub) x-at (p-is ∙ ap (R .mul u) y-at)) w
 
 module _ {E : Type 0} (R : Ring E) (s : Shape) (levels : List Level) (fm : List E) where
   abbrev P : ℕ → ℕ → E
@@ -82,14 +58,11 @@ module _ {E : Type 0} (R : Ring E) (s : Shape) (levels : List Level) (fm : List 
   begin f ok = record { chain = λ r h. h; within = λ j h. List·getD-eq-default f (R .zero) h; lawful = ok; inside = omega arith }
 
   -- nothing is left
-  pub finish : (f₀ f : List E) (n : ℕ) → n ≤ 0 → Turn f₀ f n → Left f₀ f 0
-  finish f₀ f n h turn = record {
-    rest = turn .chain (at R f) (done (λ v m lead. absurd (none v m lead)) (λ j. refl));
+  pub finish : Laws R → (f₀ f : List E) (n : ℕ) → n ≤ 0 → Turn f₀ f n → Left f₀ f 0
+  finish L f₀ f n h turn = record {
+    rest = turn .chain (at R f) (done (zero-irreducible L 1 0 (λ _ _. R .zero) (omega arith) (long levels) P (at R f) (λ j. turn .within j (omega arith))) (λ j. refl));
     left = record { past = λ j _. turn .within j (omega arith); last = λ j e. absurd (omega arith) };
   }
-    where
-      none : (v m : ℕ) → Leads R v m (at R f) → ⊥
-      none v m lead = omega (arith, lead .within, lead .top .zero-end (turn .within m (omega arith)))
 
 module _ {E : Type 0} {R : Ring E} (L : Laws R) (s : Shape) (levels : List Level) (fm : List E) (sound : Sound R s levels fm) where
   abbrev row-at : ℕ → ℕ → E
@@ -124,7 +97,7 @@ module _ {E : Type 0} {R : Ring E} (L : Laws R) (s : Shape) (levels : List Level
 
         go : Dec (j < k) → Dec (m < j) → Q (ltb j k)
         go (yes h) _ = subst Q (sym (lt-ltb j k h)) (idle j (R .zero) refl (w .before j h (R .zero)))
-        go (no h) (yes b) = subst Q (sym (le-ltb j k (omega arith))) (idle j _ (Forms.row-past L s levels fm sound v (j - k) (omega arith)) (w .after j (omega arith) (R .zero)))
+        go (no h) (yes b) = subst Q (sym (le-ltb j k (omega arith))) (idle j _ (Rows.row-past R (s .count .words) levels fm v (j - k) (omega arith)) (w .after j (omega arith) (R .zero)))
         go (no h) (no b) =
             let e : k + (j - k) ≡ j = omega arith in
             subst Q (sym (le-ltb j k (omega arith))) (subst (λ (i : ℕ). at R g i ≡ R .sub (at R f i) (R .mul u (row-at v (j - k)))) e (w .there (j - k) (omega arith) (R .zero)))
@@ -135,7 +108,7 @@ module _ {E : Type 0} {R : Ring E} (L : Laws R) (s : Shape) (levels : List Level
 
     pub step-lawful : Lawful R (at R g)
     step-lawful j =
-        Elements.moved L (each j) (L .ring-laws .sub-lawful _ _ (ok j) (L .ring-laws .mul-lawful _ _ lawful-unit (shift-lawful j (decLt j k))))
+        lawful-at L (each j) (L .ring-laws .sub-lawful _ _ (ok j) (L .ring-laws .mul-lawful _ _ lawful-unit (shift-lawful j (decLt j k))))
 
     -- the leading coefficient is gone
     pub step-within : Within R m (at R g)
@@ -147,22 +120,22 @@ module _ {E : Type 0} {R : Ring E} (L : Laws R) (s : Shape) (levels : List Level
         go (no b) =
             let e : k + long levels v ≡ j = omega arith in
             let ej : j ≡ m = omega arith in
-            let top = Forms.row-top L s levels fm sound v (lead .within) in
+            let top = Rows.row-top R (s .count .words) levels fm (sound .formed) v (lead .within) in
             subst (λ (i : ℕ). at R g i ≡ R .zero) e
             (w .there (long levels v) (omega arith) (R .zero)
             ∙ ap₂ (λ (i : ℕ) (z : E). R .sub (at R f i) (R .mul u z)) (e ∙ ej) top
             ∙ ap (R .sub (at R f m))
-            (L .ring-laws .mul-comm u (power R (R .step) v) lawful-unit (Elements.moved L (sym top) (Forms.row-lawful L s levels fm sound v (lead .within) (long levels v)))
+            (L .ring-laws .mul-comm u (power R (R .step) v) lawful-unit (lawful-at L (sym top) (Forms.row-lawful L s levels fm sound v (lead .within) (long levels v)))
             ∙ sym (lead .top .whole))
             ∙ Elements.sub-self L _ (ok m))
 
   -- a turn begins: the coefficient x is read and split
   module _ (f₀ f : List E) (n v : ℕ) (u x : E) (some : 0 < n) (turn : Turn R s levels fm f₀ f n) (read : x ≡ getD f (n - 1) x) (split : T (R .lawful x) → Split R x v u) where
     here : x ≡ at R f (n - 1)
-    here = getD-read f (n - 1) x (omega (arith, turn .inside)) read (R .zero)
+    here = read-at R f (n - 1) x (omega (arith, turn .inside)) read
 
     top : Split R (at R f (n - 1)) v u
-    top = subst (λ (z : E). Split R z v u) here (split (Elements.moved L here (turn .lawful (n - 1))))
+    top = subst (λ (z : E). Split R z v u) here (split (lawful-at L here (turn .lawful (n - 1))))
 
     -- a zero is passed over
     pub skip : R .depth ≤ v → Turn R s levels fm f₀ f (n - 1)
@@ -178,15 +151,11 @@ module _ {E : Type 0} {R : Ring E} (L : Laws R) (s : Shape) (levels : List Level
     -- no step is possible
     pub stop : v < R .depth → n - 1 < long levels v → Left R s levels fm f₀ f n
     stop hv short = record {
-      rest = turn .chain (at R f) (done small (λ j. refl));
+      rest = turn .chain (at R f)
+          (done (small-irreducible L 1 0 (λ _ _. R .zero) (omega arith) (long levels) row-at (at R f) v (n - 1) (turn .lawful) (leads hv) short) (λ j. refl));
       left = record { past = turn .within; last = λ j e z. let ej : j ≡ n - 1 = omega arith in nonzero (subst (λ (i : ℕ). at R f i ≡ R .zero) ej z) };
     }
       where
-        small : Irreducible R (long levels) row-at (at R f)
-        small w m lead =
-            let same = leads-once L w m v (n - 1) (at R f) lead (leads hv) in
-            subst (λ (i : ℕ). m < long levels i) (sym (same .0)) (omega (arith, same .1))
-
         nonzero : at R f (n - 1) ≡ R .zero → ⊥
         nonzero z = omega (arith, top .zero-end z)
 
@@ -197,7 +166,7 @@ module _ {E : Type 0} {R : Ring E} (L : Laws R) (s : Shape) (levels : List Level
       omega (arith, turn .inside),
       top .unit .1 .left,
       turn .lawful,
-      λ j. Elements.moved L (ap (λ (l : List E). at R l j) is) (Forms.row-lawful L s levels fm sound v hv j),
+      λ j. lawful-at L (ap (λ (l : List E). at R l j) is) (Forms.row-lawful L s levels fm sound v hv j),
     )
 
     -- a step

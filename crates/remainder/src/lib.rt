@@ -10,32 +10,20 @@ ghost use Rattle.recurrence.specs.Memory.{at, Unlawful, Written};
 ghost use Rattle.recurrence.specs.Findings.{extent, long, row, Formed};
 ghost use Rattle.recurrence.specs.Reductions.{Rest, Coefficients};
 ghost use Rattle.remainder.specs.Calls.{«Asked-settled», «Asked-run-back», Tried};
+ghost use Rattle.remainder.specs.Theorems.{«Try-tells»};
 ghost use Rattle.remainder.specs.Judging.{Sound, judging, taken};
+use memory::all_lawful;
 use recurrence::Record;
 use recurrence::Shape;
 use ring::Kind;
 use ring::Refusal;
-
-// Whether each of the first m elements is lawful. Its callers have found room for them.
-pub fn all_lawful<K: Kind>(kind: &K, xs: &[K::Elem], m: usize) -> bool
-    requires { ⌜ m ≤ length (now xs) ⌝ }
-    ensures yes { λ r. ⌜ (T r → Unlawful (K·Kind .ring (now (kind .entry))) (now (xs .entry)) m → ⊥) ⌝ }
-    ensures no { λ r. ⌜ ((T r → ⊥) → Unlawful (K·Kind .ring (now (kind .entry))) (now (xs .entry)) m) ⌝ }
-{
-    for i in 0..m {
-        if !kind.is_lawful(xs[i]) {
-            return false;
-        }
-    }
-    true
-}
+use ring::is_zero;
 
 // Whether two lawful elements are one.
 fn equal<K: Kind>(kind: &K, a: K::Elem, b: K::Elem) -> bool
     ensures { λ r. ⌜ (T (K·Kind .ring (now (kind .entry)) .lawful a) → T (K·Kind .ring (now (kind .entry)) .lawful b) → T r ↔ (a ≡ b)) ⌝ }
 {
-    let (v, _u) = kind.split(kind.sub(a, b));
-    v == kind.depth()
+    is_zero(kind, kind.sub(a, b))
 }
 
 // The part of a finding with the polynomial of a level. Its callers have found room for it.
@@ -126,7 +114,7 @@ pub fn can_be_run_back<K: Kind>(
 {
     judge(kind, shape, table, finding, true)?;
     let row = row_of(shape, finding, 0, table.levels[0].length);
-    Ok(!equal(kind, row[0], kind.zero()))
+    Ok(!is_zero(kind, row[0]))
 }
 
 // f - u y^k times the row.
@@ -191,3 +179,8 @@ pub fn try_on<K: Kind>(
     }
     Ok(reduce(kind, shape, table, finding, f))
 }
+
+// By a settled finding of the words held, nothing is left of a polynomial that is tried exactly if it cancels the run. This computes nothing: to call it is to have the theorem.
+pub fn try_tells<K: Kind>(kind: &K)
+    ensures { λ _. ⌜ «Try-tells» (K·Kind .ring (now (kind .entry))) ⌝ }
+{}

@@ -22,6 +22,6 @@ returns g c =
     let L = g .K·Kind .laws (c .args .kind .now) in
     let fine = c .in-Continue-judge .ensures tt .1 in (
       ((λ z. omega (arith, fine .room)), (fine .lawful, ((λ z. z (fine .formed)), tt))),
-      lowest-told L (c .args .shape .now) (c .args .table .now .levels) (c .args .finding .now) fine (c .row-of-row .result .now) (c .index-row-0 .result) (c .zero .result) (c .equal .result)
-          (c .row-of-row .ensures .is) (omega (arith, c .row-of-row .ensures .long)) (c .index-row-0 .is) (c .zero .ensures) (c .equal .ensures),
+      lowest-told L (c .args .shape .now) (c .args .table .now .levels) (c .args .finding .now) fine (c .row-of-row .result .now) (c .index-row-0 .result) (c .is-zero .result)
+          (c .row-of-row .ensures .is) (omega (arith, c .row-of-row .ensures .long)) (c .index-row-0 .is) (c .is-zero .ensures),
     )

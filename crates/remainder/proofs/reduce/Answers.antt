@@ -41,5 +41,5 @@ loop-n-again g c =
 
 pub returns : need.returns
 returns g c =
-    let left = Steps.finish (g .K·Kind .ring (c .args .kind .now)) (c .args .shape .now) (c .args .table .now .levels) (c .args .finding .now) (c .args .f .now) (c .loop-n .f) (c .loop-n .n) (omega arith) (c .loop-n .inv) in
+    let left = Steps.finish (g .K·Kind .ring (c .args .kind .now)) (c .args .shape .now) (c .args .table .now .levels) (c .args .finding .now) (g .K·Kind .laws (c .args .kind .now)) (c .args .f .now) (c .loop-n .f) (c .loop-n .n) (omega arith) (c .loop-n .inv) in
     record { rest = left .rest; left = left .left }

@@ -1,7 +1,7 @@
 use mathlib.Core.Path.{refl}
 use mathlib.Core.Logic.{inr}
 use Rattle.std.proofs.shelf.Results.{err-from-errBy}
-use Rattle.remainder.proofs.Elements.{list-lawful}
+use Rattle.memory.proofs.Elements.{lawful-all}
 use Rattle.remainder.proofs.Judges.{refuses-trying}
 use Rattle.remainder.proofs.try_on.Needs as need
 
@@ -19,5 +19,5 @@ reduce-requires g c κs =
     let judged = c .in-Continue-judge .ensures tt in
     record {
       sound = judged .1;
-      tried = list-lawful (g .K·Kind .laws (c .args .kind .now)) (c .args .f .now) (λ z. judged .0 .1 .0 (inr (λ t. c .all-lawful-lawful .ensures .yes t z)));
+      tried = lawful-all (g .K·Kind .ring (c .args .kind .now)) (g .K·Kind .laws (c .args .kind .now)) (c .args .f .now) (λ z. judged .0 .1 .0 (inr (λ t. c .all-lawful-lawful .ensures .yes t z)));
     }
