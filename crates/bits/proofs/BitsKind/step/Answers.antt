@@ -1,0 +1,5 @@
+use Rattle.bits.proofs.Words.{step-is}
+use Rattle.bits.proofs.BitsKind.step.Needs as need
+
+pub returns : need.returns
+returns c = step-is (c .args .self .now .depth) (c .mask .result) (c .mask .ensures)

@@ -1,0 +1,5 @@
+use Rattle.bits.proofs.Words.{add-is}
+use Rattle.bits.proofs.BitsKind.sub.Needs as need
+
+pub returns : need.returns
+returns c ha hb = add-is (c .args .self .now .depth) (c .args .a) (c .args .b) ha hb

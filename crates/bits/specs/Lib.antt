@@ -1,0 +1,4 @@
+pub mod Two
+pub mod Bits
+pub mod Laws
+pub mod Making

@@ -1,0 +1,9 @@
+// Where bit polynomials are cut.
+ghost use mathlib.Core.Path.{_≡_};
+ghost use Prim.Native.Nat.{_≤_};
+
+#[derive(Clone, Copy)]
+pub struct Bits {
+    pub depth: usize,
+    ghost ok: { (1 ≤ depth) × (depth ≤ 31) },
+}
