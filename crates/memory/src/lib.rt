@@ -3,7 +3,6 @@ ghost use Prim.Native.Nat.{ℕ, _≤_};
 ghost use lib.Dec.{T};
 ghost use lib.ListN.{length};
 ghost use Rattle.recurrence.specs.Memory.{Unlawful};
-
 use ring::Kind;
 
 // Whether each of the first m elements is lawful. For the crates above, which have found room for them.

@@ -31,6 +31,7 @@ module _ {E : Type 0} {R : Ring E} (L : Laws R) where
   added-more f j a b p total r ha hb is product added before =
       let p-is : p ≡ R .mul a b = product ha hb in
       let hp : T (R .lawful p) = lawful-at p-is (L .ring-laws .mul-lawful a b ha hb) in
-      let r-is : r ≡ R .add total p = added (before .0) hp in
-      (lawful-at r-is (L .ring-laws .add-lawful total p (before .0) hp),
-       subst (λ m. r ≡ sum R m f) (sym (add-one j)) (r-is ∙ ap₂ (R .add) (before .1) (p-is ∙ is)))
+      let r-is : r ≡ R .add total p = added (before .0) hp in (
+        lawful-at r-is (L .ring-laws .add-lawful total p (before .0) hp),
+        subst (λ m. r ≡ sum R m f) (sym (add-one j)) (r-is ∙ ap₂ (R .add) (before .1) (p-is ∙ is)),
+      )
