@@ -1,0 +1,98 @@
+// Lines of numbers and words, and how the elements of each kind stand in them: for the programs that run vectors.
+ghost use mathlib.Core.Path.{_≡_};
+ghost use lib.Dec.{T};
+ghost use Rattle.vectors.specs.Lines.{Cut, Reads};
+use bits::Bits;
+use bits::BitsKind;
+use residue::Residue;
+use residue::ResidueKind;
+use ring::Kind;
+use ring::Refusal;
+use std::io;
+
+// What is left of a line.
+#[derive(Drop)]
+pub struct Fields<'t> {
+    pub rest: &'t str,
+}
+
+impl<'t> Fields<'t> {
+    pub fn new(line: &'t str) -> Fields<'t>
+        ensures { λ r. ⌜ now (r .rest) ≡ now (line .entry) ⌝ }
+    {
+        Fields { rest: line }
+    }
+
+    // The next field.
+    pub fn word(&mut self) -> &'t str
+        ensures { λ r. ⌜ Cut (now (now (self .entry) .rest)) (now r) (now (now (self .exit) .rest)) ⌝ }
+    {
+        match self.rest.split_once(' ') {
+            Some((field, rest)) => {
+                self.rest = rest;
+                field
+            }
+            None => {
+                let field = self.rest;
+                self.rest = "";
+                field
+            }
+        }
+    }
+
+    // The next field as a number.
+    pub fn number(&mut self) -> Option<u32>
+        ensures { λ r. ⌜ Reads (now (now (self .entry) .rest)) (now (now (self .exit) .rest)) r ⌝ }
+    {
+        self.word().parse::<u32>().ok()
+    }
+}
+
+// A kind whose elements can be read from a line and printed.
+pub trait Written: Kind {
+    fn make(base: u32, depth: u32) -> Result<Self, Refusal>;
+
+    fn read(fields: &mut Fields<'_>) -> Option<Self::Elem>;
+
+    fn print<R: Print>(rt: &R, a: Self::Elem) -> io::Result<()>;
+
+    fn equal(a: Self::Elem, b: Self::Elem) -> bool
+        ensures yes { λ r. ⌜ (T r → a ≡ b) ⌝ }
+        ensures only { λ r. ⌜ (a ≡ b → T r) ⌝ };
+}
+
+pub impl Written for Residue as ResidueWritten {
+    fn make(base: u32, depth: u32) -> Result<Residue, Refusal> {
+        Residue::new(base, depth as usize)
+    }
+
+    fn read(fields: &mut Fields<'_>) -> Option<u32> {
+        fields.number()
+    }
+
+    fn print<R: Print>(rt: &R, a: u32) -> io::Result<()> {
+        rt.print(a)
+    }
+
+    fn equal(a: u32, b: u32) -> bool {
+        a == b
+    }
+}
+
+pub impl Written for Bits as BitsWritten {
+    fn make(base: u32, depth: u32) -> Result<Bits, Refusal> {
+        Bits::new(base, depth as usize)
+    }
+
+    fn read(fields: &mut Fields<'_>) -> Option<u32> {
+        fields.number()
+    }
+
+    fn print<R: Print>(rt: &R, a: u32) -> io::Result<()> {
+        rt.print(a)
+    }
+
+    fn equal(a: u32, b: u32) -> bool {
+        a == b
+    }
+}
