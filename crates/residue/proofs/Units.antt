@@ -6,7 +6,7 @@ use native.Mathlib.Nat.{mod-eq-of-lt, mod-lt, mod-mod-of-dvd, dvd-mul-left, pow-
 use native.Mathlib.Omega.{arith}
 use lib.Dec.{T, ltb}
 use Rattle.ring.specs.Ring.{Ring-laws, power}
-use Rattle.ring.proofs.Units.{Inverts, inverts-twice, inverts-whole}
+use Rattle.ring.proofs.Units.{Inverts, inverts-whole}
 use Rattle.inverses.specs.Bases.{listed, Inverse}
 use Rattle.inverses.proofs.Bases.{listed-low}
 use Rattle.residue.specs.Modulo.{modulo}

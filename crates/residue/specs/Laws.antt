@@ -3,11 +3,10 @@ use mathlib.Core.Path.{_≡_, refl, sym, ap, subst, _∙_}
 use mathlib.Core.Logic.{_≢_}
 use Prim.Native.Nat.{ℕ, zero, suc, _+_, _-_, _*_, _/_, _%_, _^_, _<_, _≤_}
 use native.Mathlib.Nat.{add-comm, add-assoc, mul-comm, mul-assoc, mul-left-comm, mul-one, mul-add, add-mul, mod-add-mod, add-mod-mod, mod-eq-of-lt, mod-lt, mod-self, add-mod-right, mod-add-div, div-add-mod, div-add-mod', add-mul-mod-self-left, pow-zero, pow-suc, pow-le-pow-right, mul-lt-mul-of-pos-left, le-mul-of-pos-right, le-trans, lt-of-lt-of-le, le-refl, zero-mod, zero-mul, one-mul, not-le-of-lt, lt-of-not-le, div-lt-self}
-use native.Mathlib.Numerals.{add-one}
 use native.Mathlib.Omega.{arith}
 use native.Mathlib.Decide.{ℕ-discrete}
 use lib.Dec.{T, ltb, ltb→lt, lt→ltb}
-use Rattle.ring.specs.Ring.{Ring, Ring-laws, Laws, power, Unit-of, Split}
+use Rattle.ring.specs.Ring.{Ring-laws, Laws, power, Unit-of, Split}
 use Rattle.ring.proofs.Strong.{strong}
 use Rattle.ring.proofs.Units.{unit-modulo}
 use Rattle.inverses.specs.Bases.{listed}

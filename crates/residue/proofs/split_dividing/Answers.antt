@@ -1,5 +1,5 @@
-use mathlib.Core.Path.{_≡_, sym, ap, _∙_}
-use Prim.Native.Nat.{ℕ, _+_, _*_, _/_, _^_, _<_, _≤_}
+use mathlib.Core.Path.{sym, ap, _∙_}
+use Prim.Native.Nat.{ℕ, _*_, _/_, _^_, _<_}
 use native.Mathlib.Nat.{mul-one, mul-comm, mul-assoc, pow-zero, pow-suc, div-lt-self}
 use native.Mathlib.Numerals.{add-one}
 use native.Mathlib.Omega.{arith}

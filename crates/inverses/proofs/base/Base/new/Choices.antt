@@ -1,6 +1,5 @@
 use mathlib.Core.Path.{_≡_}
 use Prim.Native.Nat.{_+_, _*_, _^_, _≤_}
-use lib.Dec.{T}
 use lib.ListN.{drop}
 use Rattle.inverses.specs.Bases.{bases, among, before, listed, start}
 use Rattle.inverses.proofs.base.Base.new.Given as given

@@ -1,6 +1,5 @@
-use mathlib.Core.Path.{_≡_, subst, _∙_}
-use Prim.Native.Nat.{ℕ, _^_, _<_, _≤_}
-use native.Mathlib.Nat.{pow-le-pow-left, pow-le-pow-right, lt-of-not-le}
+use Prim.Native.Nat.{ℕ, _^_, _≤_}
+use native.Mathlib.Nat.{pow-le-pow-left}
 use native.Mathlib.Omega.{arith}
 use native.Mathlib.Decide.{decLe}
 use Rattle.inverses.proofs.Bases.{listed-low}
