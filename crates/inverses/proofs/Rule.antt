@@ -12,7 +12,7 @@ use Rattle.inverses.specs.Bases.{bases, before, listed, start, Inverse}
 use Rattle.inverses.proofs.Bases.{both-left, both-right, each, listed-each, listed-low}
 
 -- the test f passes below n
-abbrev each-below : ℕ → (ℕ → Bool) → Bool
+abbrev pub each-below : ℕ → (ℕ → Bool) → Bool
 each-below zero f = true
 each-below (suc n) f = f n && each-below n f
 
@@ -20,7 +20,7 @@ last-or : (n : ℕ) (f : ℕ → Bool) (k : ℕ) → T (f n) → (k < n → T (f
 last-or n f k t ih h (yes e) = subst (λ (x : ℕ). T (f x)) (sym e) t
 last-or n f k t ih h (no ne) = ih (omega arith)
 
-below-at : (n : ℕ) (f : ℕ → Bool) → T (each-below n f) → (k : ℕ) → k < n → T (f k)
+pub below-at : (n : ℕ) (f : ℕ → Bool) → T (each-below n f) → (k : ℕ) → k < n → T (f k)
 below-at zero f t k h = absurd (not-suc-le-zero h)
 below-at (suc n) f t k h = last-or n f k (both-left (f n) (each-below n f) t) (below-at n f (both-right (f n) (each-below n f) t) k) h (ℕ-discrete k n)
 

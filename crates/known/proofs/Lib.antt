@@ -1,0 +1,4 @@
+pub mod Tests
+pub mod Entries
+pub mod Table
+pub mod Lengths

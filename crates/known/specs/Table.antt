@@ -1,0 +1,165 @@
+-- The captures whose findings are known.
+use mathlib.Core.Bool.{true, false}
+use mathlib.Core.List.{List, [], _∷_, map}
+use Prim.Native.Nat.{ℕ}
+use lib.ListN.{getD}
+use Rattle.std.specs.shelf.Lists.{All}
+use Rattle.ring.specs.Ring.{Ring}
+use Rattle.recurrence.specs.declared.shape.Level.{Level}
+use Rattle.residue.specs.Modulo.{modulo}
+use Rattle.bits.specs.Bits.{bits as bit-polynomials}
+use Rattle.known.specs.Entries.{Entry, long-is, one-channel, Yields}
+
+-- the kinds: numbers modulo p^d, and polynomials in x over the field of two elements, cut at x^d, in one word
+pub data Kind : Type 0 where
+  residues : ℕ → ℕ → Kind
+  bits : ℕ → Kind
+
+abbrev pub Element : Kind → Type 0
+Element (residues p d) = ℕ
+Element (bits d) = ℕ
+
+abbrev pub ring : (k : Kind) → Ring (Element k)
+ring (residues p d) = modulo p d
+ring (bits d) = bit-polynomials d
+
+pub record Row : Type 0 where
+  pub kind : Kind
+  pub entry : Entry (Element kind)
+
+abbrev pub Holds : Row → Type 0
+Holds r = Yields (ring (r .kind)) (r .entry)
+
+-- modulo 4, no words
+abbrev pub no-words : Row
+no-words = record {
+  kind = residues 2 2;
+  entry = record {
+    channels = 1;
+    words = [];
+    levels = long-is 0 ∷ long-is 0 ∷ [];
+    memory = 1 ∷ 2 ∷ [];
+    settled = true;
+    next = one-channel (0 ∷ []);
+    tried = [];
+  };
+}
+
+-- the words 1, 1 + x, 1, 1 + x, in one word modulo 2 cut at x²
+abbrev pub binary-in-words : Row
+binary-in-words = record {
+  kind = bits 2;
+  entry = record {
+    channels = 1;
+    words = one-channel (1 ∷ 3 ∷ 1 ∷ 3 ∷ []);
+    levels = long-is 1 ∷ long-is 1 ∷ [];
+    memory =
+        3 ∷ 1 ∷ 0 ∷ 0 ∷ 0
+        ∷ 2 ∷ 2 ∷ 0 ∷ 0 ∷ 0
+        ∷ [];
+    settled = true;
+    next = one-channel (1 ∷ 3 ∷ []);
+    tried = [];
+  };
+}
+
+-- modulo 4, the words 0, 0, 1
+abbrev pub late : Row
+late = record {
+  kind = residues 2 2;
+  entry = record {
+    channels = 1;
+    words = one-channel (0 ∷ 0 ∷ 1 ∷ []);
+    levels = long-is 3 ∷ long-is 3 ∷ [];
+    memory =
+        0 ∷ 0 ∷ 0 ∷ 1
+        ∷ 0 ∷ 0 ∷ 0 ∷ 2
+        ∷ [];
+    settled = false;
+    next = [];
+    tried = [];
+  };
+}
+
+-- modulo 4, the words 2, 0, 2, 0
+abbrev pub even : Row
+even = record {
+  kind = residues 2 2;
+  entry = record {
+    channels = 1;
+    words = one-channel (2 ∷ 0 ∷ 2 ∷ 0 ∷ []);
+    levels = long-is 2 ∷ long-is 0 ∷ [];
+    memory =
+        1 ∷ 0 ∷ 1 ∷ 0 ∷ 0
+        ∷ 2 ∷ 0 ∷ 0 ∷ 0 ∷ 0
+        ∷ [];
+    settled = true;
+    next = one-channel (2 ∷ 0 ∷ []);
+    tried = [];
+  };
+}
+
+-- modulo 4, one word
+abbrev pub step-alone : Row
+step-alone = record {
+  kind = residues 2 2;
+  entry = record {
+    channels = 1;
+    words = one-channel (2 ∷ []);
+    levels = long-is 1 ∷ long-is 0 ∷ [];
+    memory =
+        0 ∷ 1
+        ∷ 2 ∷ 0
+        ∷ [];
+    settled = false;
+    next = [];
+    tried = [];
+  };
+}
+
+abbrev pub one-alone : Row
+one-alone = record {
+  kind = residues 2 2;
+  entry = record {
+    channels = 1;
+    words = one-channel (1 ∷ []);
+    levels = long-is 1 ∷ long-is 1 ∷ [];
+    memory =
+        0 ∷ 1
+        ∷ 0 ∷ 2
+        ∷ [];
+    settled = false;
+    next = [];
+    tried = [];
+  };
+}
+
+-- modulo 2, two channels, the words (1, 0), (0, 1), (1, 1)
+abbrev pub two-channels : Row
+two-channels = record {
+  kind = residues 2 1;
+  entry = record {
+    channels = 2;
+    words = (1 ∷ 0 ∷ []) ∷ (0 ∷ 1 ∷ []) ∷ (1 ∷ 1 ∷ []) ∷ [];
+    levels = long-is 2 ∷ [];
+    memory = 1 ∷ 1 ∷ 1 ∷ 0 ∷ [];
+    settled = false;
+    next = [];
+    tried = [];
+  };
+}
+
+abbrev pub table : List Row
+table = no-words ∷ late ∷ even ∷ step-alone ∷ one-alone ∷ two-channels ∷ binary-in-words ∷ []
+
+-- the levels of each row
+abbrev pub all-levels : List (List Level)
+all-levels = map (λ r. r .entry .levels) table
+
+-- the levels of one row, none past the table's end
+abbrev pub levels-of : ℕ → List Level
+levels-of row = getD all-levels row []
+
+-- The definitions yield every row of the table.
+abbrev pub Known : Type 0
+Known = All Holds table
