@@ -1,5 +1,6 @@
 -- The product of polynomials is commutative, associative and distributes, and x^i moves coefficients up by i.
 use mathlib.Core.Path.{_≡_, refl, sym, ap, ap₂, _∙_}
+use mathlib.Core.Logic.{_≢_}
 use Prim.Native.Nat.{ℕ, zero, suc, _+_, _-_, _≤_, _<_}
 use native.Mathlib.Omega.{arith}
 use Rattle.ring.specs.Commutative.{CommRing, sum}
@@ -105,13 +106,26 @@ module _ {A : Type 0} (F : CommRing A) where
   monomial-same zero = refl
   monomial-same (suc i) = monomial-same i
 
-  pub monomial-low : (i j : ℕ) → j < i → monomial F i j ≡ 𝟘
-  monomial-low zero j h = absurd (omega arith)
-  monomial-low (suc i) zero h = refl
-  monomial-low (suc i) (suc j) h = monomial-low i j (omega arith)
+  pub monomial-other : (i j : ℕ) → j ≢ i → monomial F i j ≡ 𝟘
+  monomial-other zero zero ne = absurd (ne refl)
+  monomial-other zero (suc j) ne = refl
+  monomial-other (suc i) zero ne = refl
+  monomial-other (suc i) (suc j) ne = monomial-other i j (λ e. ne (ap suc e))
 
   -- x^i times x
   pub monomial-next : (i j : ℕ) → product F (monomial F i) (monomial F 1) j ≡ monomial F (suc i) j
   monomial-next i zero = product-comm 0 (monomial F i) (monomial F 1) ∙ monomial-below 1 0 (monomial F i) (omega arith)
   monomial-next i (suc j) =
       product-comm (suc j) (monomial F i) (monomial F 1) ∙ monomial-from 1 (suc j) (monomial F i) (omega arith) ∙ ap (monomial F i) (omega arith)
+
+  -- an inverse of u as far as x^k is one as far as x^(k + 1), with minus the next coefficient of the product times the inverse of u's constant
+  pub inverse-next : (k : ℕ) (u w w′ : ℕ → A) (b : A) → u 0 ⊗ b ≡ 𝟙 → ((j : ℕ) → j ≤ k → w′ j ≡ w j) → w (suc k) ≡ 𝟘
+      → w′ (suc k) ≡ (⊖ product F u w (suc k)) ⊗ b → product F u w′ (suc k) ≡ 𝟘
+  inverse-next k u w w′ b unit same none next =
+      product-first k u w′
+      ∙ ap₂ _⊕_ (ap (λ z. u 0 ⊗ z) next ∙ Sums.mul-left-comm F (u 0) (⊖ product F u w (suc k)) b ∙ ap (λ z. (⊖ product F u w (suc k)) ⊗ z) unit ∙ mul-one (⊖ product F u w (suc k)))
+      (product-upto k (tail u) w′ (tail u) w (λ j _. refl) same ∙ sym rest)
+      ∙ Sums.neg-add F (product F u w (suc k))
+    where
+      rest : product F u w (suc k) ≡ product F (tail u) w k
+      rest = product-first k u w ∙ ap (λ z. z ⊕ product F (tail u) w k) (ap (λ z. u 0 ⊗ z) none ∙ Sums.mul-zero F (u 0)) ∙ Sums.zero-add F (product F (tail u) w k)

@@ -7,3 +7,4 @@ pub mod Rows
 pub mod Convolution
 pub mod Truncated
 pub mod Loops
+pub mod Remainders

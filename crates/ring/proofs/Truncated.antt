@@ -10,7 +10,7 @@ use Rattle.ring.specs.Ring.{Ring, Ring-laws, Laws, power, Unit-of, Split}
 use Rattle.ring.specs.Truncated.{product, monomial, Field, Packing, Packs, truncated}
 use Rattle.ring.proofs.Sums as Sums
 use Rattle.ring.proofs.Units.{unit-modulo}
-use Rattle.ring.proofs.Convolution.{product-upto, product-comm, product-add, product-scale, product-assoc, one-product, monomial-below, monomial-from, monomial-same, monomial-low, monomial-next}
+use Rattle.ring.proofs.Convolution.{product-upto, product-comm, product-add, product-scale, product-assoc, one-product, monomial-below, monomial-from, monomial-same, monomial-other, monomial-next}
 
 module _ {E A : Type 0} (F : CommRing A) {P : Packing E A} {d : ℕ} (ok : Packs P d) where
   infixl 60 _⊕_
@@ -67,7 +67,7 @@ module _ {E A : Type 0} (F : CommRing A) {P : Packing E A} {d : ℕ} (ok : Packs
       ∙ ok .first _ _ (λ j h. cut-left (monomial F i) _ j h ∙ cut-right (monomial F i) (monomial F 1) j h ∙ monomial-next F i j)
 
   pub step-ends : power (truncated F P d) (pack (monomial F 1)) d ≡ pack (λ _. 𝟘)
-  step-ends = step-power d ∙ ok .first _ _ (λ j h. monomial-low F d j h)
+  step-ends = step-power d ∙ ok .first _ _ (λ j h. monomial-other F d j (omega arith))
 
   step-lasts : 𝟙 ≢ 𝟘 → (i : ℕ) → i < d → power (truncated F P d) (pack (monomial F 1)) i ≢ pack (λ _. 𝟘)
   step-lasts distinct i h e = distinct
@@ -131,6 +131,12 @@ module _ {E A : Type 0} (F : CommRing A) {P : Packing E A} {d : ℕ} (ok : Packs
       nonzero : a ≢ pack (λ _. 𝟘)
       nonzero z = distinct (sym unit ∙ ap (λ y. y ⊗ b) (ap (λ y. coefficient y v) z ∙ ok .reads _ v hv) ∙ Sums.zero-mul F b)
 
+  pub split-moved : 𝟙 ≢ 𝟘 → (a : E) (v : ℕ) (b : A) → v < d → T (lawful a) → ((j : ℕ) → j < v → coefficient a j ≡ 𝟘)
+      → coefficient a v ⊗ b ≡ 𝟙 → Split (truncated F P d) a v (pack (λ j. coefficient a (v + j)))
+  split-moved distinct a v b hv ha below unit =
+      split-at distinct a (pack (λ j. coefficient a (v + j))) v b hv ha (ok .inside _) below
+      (λ j le lt. ap (coefficient a) (omega arith) ∙ sym (ok .reads _ (j - v) (omega arith))) unit
+
   -- the lowest nonzero coefficient below n, if there is one
   abbrev Lowest : (ℕ → A) → ℕ → Type 0
   Lowest f n = ((j : ℕ) → j < n → f j ≡ 𝟘) ⊎ ((v : ℕ) × (v < n) × ((j : ℕ) → j < v → f j ≡ 𝟘) × ((b : A) × (f v ⊗ b ≡ 𝟙)))
@@ -161,9 +167,4 @@ module _ {E A : Type 0} (F : CommRing A) {P : Packing E A} {d : ℕ} (ok : Packs
     where
       split : (a : E) → T (lawful a) → Lowest (coefficient a) d → (v : ℕ) × (u : E) × Split (truncated F P d) a v u
       split a ha (inl none) = (d, pack (monomial F 0), split-zero low a (sym (ok .back a ha) ∙ ok .first _ _ none))
-      split a ha (inr h) = (
-        h .0,
-        pack (λ j. coefficient a (h .0 + j)),
-        split-at distinct a (pack (λ j. coefficient a (h .0 + j))) (h .0) (h .3 .0) (h .1) ha (ok .inside _) (h .2)
-            (λ j le lt. ap (coefficient a) (omega arith) ∙ sym (ok .reads _ (j - h .0) (omega arith))) (h .3 .1),
-      )
+      split a ha (inr h) = (h .0, pack (λ j. coefficient a (h .0 + j)), split-moved distinct a (h .0) (h .3 .0) (h .1) ha (h .2) (h .3 .1))

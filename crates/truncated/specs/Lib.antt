@@ -1,0 +1,4 @@
+pub mod Remainders
+pub mod Polynomials
+pub mod Laws
+pub mod Operations
