@@ -1,5 +1,5 @@
 -- The turns of a continuation.
-use mathlib.Core.Path.{_≡_, refl, sym, ap, ap₂, _∙_, subst}
+use mathlib.Core.Path.{_≡_, sym, ap, ap₂, _∙_, subst}
 use mathlib.Core.Bool.{Bool, cond}
 use mathlib.Core.List.{List}
 use mathlib.Core.Logic.{_≢_}
@@ -17,7 +17,6 @@ use Rattle.ring.proofs.Lifts as Lifts
 use Rattle.ring.proofs.Loops.{Added, lawful-at}
 use Rattle.recurrence.specs.declared.shape.Shape.{Shape}
 use Rattle.recurrence.specs.Memory.{at}
-use Rattle.recurrence.specs.Polynomials.{Lawful}
 use Rattle.recurrence.specs.Words.{place, words, run}
 use Rattle.recurrence.proofs.Continuations as Continuations
 use Rattle.continuation.specs.Filling.{Ready, Filled}

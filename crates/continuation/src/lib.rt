@@ -1,12 +1,13 @@
 // The run of a finding handed in, continued into a buffer.
 ghost use mathlib.Core.Path.{_≡_};
 ghost use mathlib.Core.Bool.{cond};
-ghost use Prim.Native.Nat.{ℕ, _+_, _-_, _*_, _<_, _≤_};
+ghost use Prim.Native.Nat.{_+_, _-_, _*_, _<_, _≤_};
 ghost use lib.Dec.{ltb};
 ghost use lib.ListN.{length, getD};
 ghost use Rattle.recurrence.specs.Memory.{at};
 ghost use Rattle.recurrence.specs.Words.{place, words, run};
 ghost use Rattle.remainder.specs.Calls.{«Ran-on»};
+ghost use Rattle.continuation.specs.Theorems.{«Run-on-foretells»};
 ghost use Rattle.continuation.specs.Filling.{Ready, Filled};
 use memory::all_lawful;
 use recurrence::Record;
@@ -115,3 +116,8 @@ pub fn run_on<K: Kind>(
     );
     Ok(())
 }
+
+// By a finding of words of lists that obey a short enough polynomial, run on fills in the lists' later words. This computes nothing: to call it is to have the theorem.
+pub fn run_on_foretells<K: Kind>(kind: &K)
+    ensures { λ _. ⌜ «Run-on-foretells» (K·Kind .ring (now (kind .entry))) ⌝ }
+{}

@@ -6,7 +6,7 @@ use Prim.Native.Nat.{ℕ, _+_}
 use native.Mathlib.Numerals.{add-one}
 use lib.Dec.{T}
 use Rattle.ring.specs.Ring.{Ring, Laws, power}
-use Rattle.ring.specs.Lawful.{Is, lifted}
+use Rattle.ring.specs.Lawful.{lifted}
 use Rattle.ring.proofs.Sums as Sums
 use Rattle.ring.proofs.Lifts as Lifts
 use Rattle.ring.proofs.Loops.{lawful-at}

@@ -1,22 +1,26 @@
 -- A finding that the judge refuses is refused for the same reason by the call that asks it.
-use mathlib.Core.Path.{_≡_, sym, ap, _∙_}
 use mathlib.Core.Bool.{Bool, true, not}
 use mathlib.Core.Logic.{_⊎_, inl, inr, ⊎-elim, _↔_}
 use mathlib.Core.List.{List, [], _∷_}
-use Prim.Native.Nat.{ℕ, _+_, _*_, _<_, _≤_}
-use native.Mathlib.Omega.{arith}
+use Prim.Native.Nat.{_<_}
 use lib.Dec.{T}
-use lib.ListN.{length, getD, take, drop}
-use Rattle.ring.specs.Ring.{Ring, Laws}
+use lib.ListN.{length}
+use Rattle.ring.specs.Ring.{Ring}
 use Rattle.ring.specs.declared.Refusal.{Refusal}
 use Rattle.ring.specs.declared.Refusal.the-variants.{Short, Foreign, Stages, Unsettled, Span}
-use Rattle.ring.specs.Refusals.{Row, Refuses}
+use Rattle.ring.specs.Refusals.{Row, Passes, Refuses}
 use Rattle.recurrence.specs.declared.shape.Shape.{Shape}
 use Rattle.recurrence.specs.declared.shape.Level.{Level}
 use Rattle.recurrence.specs.Memory.{Unlawful}
 use Rattle.recurrence.specs.Findings.{Formed, Settled}
 use Rattle.remainder.specs.Calls.{Short-finding, Foreign-finding, asking, trying}
 use Rattle.remainder.specs.Judging.{judging}
+
+-- what passes is not refused
+pub passes-refuses : (rows : List {1} Row) (e : Refusal) → Passes rows → Refuses rows e → ⊥
+passes-refuses [] e p r = r
+passes-refuses (row ∷ rows) e p (inl x) = p .0 (x .0)
+passes-refuses (row ∷ rows) e p (inr x) = passes-refuses rows e (p .1) (x .1)
 
 pub refuses-as : (short short′ foreign foreign′ misformed : Type 0) (rows : List {1} Row) (e : Refusal) → short ↔ short′ → foreign ↔ foreign′
     → Refuses ((short, Short) ∷ (foreign, Foreign) ∷ (misformed, Stages) ∷ []) e

@@ -1,15 +1,13 @@
 -- What is left of a polynomial that is tried tells whether it cancels the run.
 use mathlib.Core.Path.{_≡_, refl, ap}
-use mathlib.Core.Logic.{_⊎_, inl, inr, ⊎-elim}
-use mathlib.Core.List.{List, [], _∷_}
-use Prim.Native.Nat.{ℕ, zero, suc, _≤_}
+use mathlib.Core.Logic.{⊎-elim}
+use Prim.Native.Nat.{ℕ, zero, suc}
 use native.Mathlib.Omega.{arith}
 use lib.ListN.{length, List·getD-eq-default}
 use Rattle.std.specs.declared.result.Result.{Result}
 use Rattle.std.specs.declared.result.Result.the-variants.{Ok, Err}
 use Rattle.ring.specs.Ring.{Ring, Laws}
 use Rattle.ring.specs.declared.Refusal.{Refusal}
-use Rattle.ring.specs.Refusals.{Row, Passes, Refuses}
 use Rattle.recurrence.specs.Memory.{at}
 use Rattle.recurrence.specs.Polynomials.{Zero}
 use Rattle.recurrence.specs.Reductions.{Coefficients}
@@ -17,12 +15,7 @@ use Rattle.recurrence.proofs.Findings.{finding-rest-tells}
 use Rattle.memory.proofs.Elements.{lawful-all}
 use Rattle.remainder.specs.Calls.{trying}
 use Rattle.remainder.specs.Theorems.{Try-tells}
-
--- what passes is not refused
-pub passes-refuses : (rows : List {1} Row) (e : Refusal) → Passes rows → Refuses rows e → ⊥
-passes-refuses [] e p r = r
-passes-refuses (row ∷ rows) e p (inl x) = p .0 (x .0)
-passes-refuses (row ∷ rows) e p (inr x) = passes-refuses rows e (p .1) (x .1)
+use Rattle.remainder.proofs.Judges.{passes-refuses}
 
 ok-same : (m n : ℕ) → _≡_ {A = Result ℕ Refusal} (Ok m) (Ok n) → m ≡ n
 ok-same m n e = cc

@@ -1,9 +1,9 @@
 // A finding handed in: whether it is in form, settled, can be run back; and the reduction of a polynomial by it.
 ghost use mathlib.Core.Path.{_≡_};
 ghost use mathlib.Core.Logic.{_↔_};
-ghost use Prim.Native.Nat.{ℕ, _+_, _-_, _*_, _<_, _≤_};
+ghost use Prim.Native.Nat.{_+_, _-_, _*_, _<_, _≤_};
 ghost use lib.Dec.{T};
-ghost use lib.ListN.{length, getD, take, drop};
+ghost use lib.ListN.{length, take, drop};
 ghost use Rattle.ring.specs.Refusals.{Call};
 ghost use Rattle.recurrence.specs.Polynomials.{Lawful};
 ghost use Rattle.recurrence.specs.Memory.{at, Unlawful, Written};

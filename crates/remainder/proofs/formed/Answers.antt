@@ -1,14 +1,10 @@
-use mathlib.Core.Path.{_≡_}
-use mathlib.Core.Bool.{Bool, true, false}
-use mathlib.Core.Logic.{_↔_}
-use Prim.Native.Nat.{ℕ, _+_, _*_, _<_}
+use mathlib.Core.Bool.{true, false}
+use Prim.Native.Nat.{_+_, _<_}
 use native.Mathlib.Omega.{arith}
 use borrow.Author.Count.{below-more}
-use lib.Dec.{T}
 use Rattle.ring.specs.Ring.{power}
 use Rattle.ring.proofs.Loops.{place-inside}
 use Rattle.recurrence.specs.Findings.{long}
-use Rattle.recurrence.specs.Memory.{at}
 use Rattle.remainder.proofs.Elements.{power-none, power-more, marked-true, untold}
 use Rattle.remainder.proofs.Forms.{leads-told, formed-all}
 use Rattle.remainder.proofs.formed.Needs as need

@@ -1,4 +1,3 @@
-use lib.ListN.{length}
 use Rattle.recurrence.specs.Memory.{at, Written}
 use Rattle.remainder.specs.Judging.{taken}
 use Rattle.remainder.proofs.take_away.Given as given
