@@ -1,4 +1,4 @@
-// The shortest polynomials of all levels that cancel the words of a capture: Berlekamp and Massey's search over a chain ring.
+// The shortest polynomials of all levels that cancel the words of a capture, by the method of Berlekamp and Massey over a chain ring.
 ghost use mathlib.Core.Path.{_≡_};
 ghost use Prim.Native.Nat.{ℕ, suc, _+_, _-_, _*_, _<_, _≤_};
 ghost use lib.ListN.{length, getD};

@@ -1,4 +1,4 @@
-// One polynomial against those that are kept: the step of the search for the shortest polynomials that cancel a capture.
+// One polynomial against those that are kept: a step on the way to the shortest polynomials that cancel a capture.
 // The functions here ask what the crate above meets: no user of the library calls them.
 ghost use mathlib.Core.Path.{_≡_};
 ghost use Prim.Native.Nat.{ℕ, suc, _+_, _-_, _*_, _/_, _%_, _<_, _≤_};

@@ -32,7 +32,7 @@ pub struct Record {
 }
 
 impl Record {
-    // One place is changed; the others are as they were. For the search, which has fewer than 31 levels.
+    // One place is changed; the others are as they were. For the crates above, whose levels lie below the depth.
     pub fn put(&mut self, i: usize, level: Level)
         requires { ⌜ i < 31 ⌝ }
         ensures { λ _. ⌜ now (self .exit) .levels ≡ set (now (self .entry) .levels) i level ⌝ }
