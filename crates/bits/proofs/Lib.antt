@@ -1,3 +1,3 @@
-pub mod Words
+pub mod Operations
 pub mod Loops
 pub mod Splitting

@@ -1,7 +1,7 @@
 -- The loops that multiply and divide bit polynomials, a coefficient a turn.
 use mathlib.Core.Path.{_≡_, refl, sym, ap, ap₂, subst, _∙_}
 use mathlib.Core.Bool.{Bool, true, false}
-use Prim.Native.Nat.{ℕ, zero, suc, _+_, _-_, _*_, _/_, _%_, _^_, _<_, _≤_}
+use Prim.Native.Nat.{ℕ, zero, _+_, _-_, _*_, _/_, _%_, _^_, _<_, _≤_}
 use native.Mathlib.Nat.{pow-zero, pow-suc, div-one, div-eq-of-lt, div-div-eq-div-mul}
 use native.Mathlib.Numerals.{add-one}
 use native.Mathlib.Omega.{arith}
@@ -10,15 +10,15 @@ use lib.Bits.{bitXor, bitAnd}
 use Rattle.ring.specs.Commutative.{CommRing}
 use Rattle.ring.specs.Ring.{Ring-laws, power}
 use Rattle.ring.specs.Truncated.{product, monomial}
-use Rattle.ring.specs.Lawful.{same-element, lawful-ring}
+use Rattle.ring.specs.Lawful.{lawful-ring}
 use Rattle.ring.proofs.Sums as Sums
-use Rattle.ring.proofs.Units.{Inverts, inverts-whole}
+use Rattle.ring.proofs.Units.{inverts-whole}
 use Rattle.ring.proofs.Convolution.{product-zero}
 use Rattle.ring.proofs.Truncated.{truncated-ring, step-ends, step-power}
 use Rattle.bits.specs.Two.{two, and}
 use Rattle.bits.specs.Bits.{odd, bit, bits}
-use Rattle.bits.specs.Laws.{bit-zero, word-packs}
-use Rattle.bits.proofs.Words.{zero-is, one-is, one-shifted, power-is, add-is, shift-is, even-is, odd-is, half-fits, odd-xor}
+use Rattle.bits.specs.Laws.{bit-zero, binary-packs}
+use Rattle.bits.proofs.Operations.{zero-is, one-is, one-shifted, power-is, add-is, shift-is, even-is, odd-is, half-fits, odd-xor}
 
 -- in any commutative ring
 module _ {A : Type 0} (F : CommRing A) where
@@ -37,10 +37,10 @@ module _ {A : Type 0} (F : CommRing A) where
 
 module _ (d : ℕ) (low : 1 ≤ d) (high : d ≤ 31) where
   abbrev L : Ring-laws (bits d)
-  L = truncated-ring two (word-packs d)
+  L = truncated-ring two (binary-packs d)
 
   abbrev ring : CommRing ((a : ℕ) × T (ltb a (2 ^ d)))
-  ring = lawful-ring (bits d) (truncated-ring two (word-packs d))
+  ring = lawful-ring (bits d) (truncated-ring two (binary-packs d))
 
   fits : {a b : ℕ} → a ≡ b → T (ltb b (2 ^ d)) → T (ltb a (2 ^ d))
   fits e h = subst (λ (n : ℕ). T (ltb n (2 ^ d))) (sym e) h
@@ -107,7 +107,7 @@ module _ (d : ℕ) (low : 1 ≤ d) (high : d ≤ 31) where
     pub eq : bits d .add (bits d .mul u w) (bits d .mul (power (bits d) (bits d .step) i) r) ≡ bits d .one
 
   power-fits : (i : ℕ) → T (ltb (power (bits d) (bits d .step) i) (2 ^ d))
-  power-fits i = fits (step-power two (word-packs d) i) (word-packs d .inside _)
+  power-fits i = fits (step-power two (binary-packs d) i) (binary-packs d .inside _)
 
   pub divided-start : (u : ℕ) → T (ltb u (2 ^ d)) → Divided u 0 1 0
   unfolding power
@@ -165,15 +165,15 @@ module _ (d : ℕ) (low : 1 ≤ d) (high : d ≤ 31) where
 
   pub divided-whole : (u w r v i : ℕ) → d ≤ i → T (ltb u (2 ^ d)) → Divided u w r i → T (ltb v (2 ^ d)) → bits d .mul u v ≡ bits d .one → w ≡ v
   divided-whole u w r v i le hu h hv e =
-      inverts-whole (bits d) L (step-ends two (word-packs d)) u w v i hu le
+      inverts-whole (bits d) L (step-ends two (binary-packs d)) u w v i hu le
       (record { lawful = h .w-fits; rest = r; rest-lawful = h .r-fits; eq = h .eq }) hv e
 
   -- a unit is odd
   pub unit-odd : (u w : ℕ) → bits d .mul u w ≡ bits d .one → odd u ≡ true
   unit-odd u w e =
       sym (bit-zero u)
-      ∙ left (bit u 0) (bit w 0) (sym (word-packs d .reads (product two (bit u) (bit w)) 0 low ∙ product-zero two (bit u) (bit w))
-      ∙ ap (λ (n : ℕ). bit n 0) e ∙ word-packs d .reads (monomial two 0) 0 low)
+      ∙ left (bit u 0) (bit w 0) (sym (binary-packs d .reads (product two (bit u) (bit w)) 0 low ∙ product-zero two (bit u) (bit w))
+      ∙ ap (λ (n : ℕ). bit n 0) e ∙ binary-packs d .reads (monomial two 0) 0 low)
     where
       left : (a b : Bool) → and a b ≡ true → a ≡ true
       left true b h = refl

@@ -12,8 +12,8 @@ use Rattle.ring.specs.Ring.{Split}
 use Rattle.ring.proofs.Truncated.{split-zero, split-at}
 use Rattle.bits.specs.Two.{two}
 use Rattle.bits.specs.Bits.{odd, bit, bits}
-use Rattle.bits.specs.Laws.{bit-zero, bit-suc, word-packs, two-distinct}
-use Rattle.bits.proofs.Words.{zero-is, one-is}
+use Rattle.bits.specs.Laws.{bit-zero, bit-suc, binary-packs, two-distinct}
+use Rattle.bits.proofs.Operations.{zero-is, one-is}
 
 -- the lowest bit of a that is set is bit v
 pub record Lowest (a v : ℕ) : Type 0 where
@@ -52,13 +52,13 @@ set-below d a v h e = at (decLt v d)
 
 module _ (d : ℕ) (low : 1 ≤ d) where
   pub zero-split : (a : ℕ) → a ≡ 0 → Split (bits d) a d 1
-  zero-split a e = subst (Split (bits d) a d) (sym (one-is d low)) (split-zero two (word-packs d) low a (e ∙ zero-is d))
+  zero-split a e = subst (Split (bits d) a d) (sym (one-is d low)) (split-zero two (binary-packs d) low a (e ∙ zero-is d))
 
   pub shifted-split : (a v : ℕ) → Lowest a v → T (ltb a (2 ^ d)) → Split (bits d) a v (a / 2 ^ v)
   shifted-split a v l ha =
       let below = ltb→lt a (2 ^ d) ha in
       let less = div-le-self a (2 ^ v) in
-      split-at two (word-packs d) two-distinct a (a / 2 ^ v) v true (set-below d a v below (l .set)) ha
+      split-at two (binary-packs d) two-distinct a (a / 2 ^ v) v true (set-below d a v below (l .set)) ha
       (lt→ltb (a / 2 ^ v) (2 ^ d) (omega arith)) (l .below) (λ j le _. moved j le) (ap (λ (b : Bool). two ._⊗_ b true) (l .set))
     where
       moved : (j : ℕ) → v ≤ j → bit a j ≡ bit (a / 2 ^ v) (j - v)

@@ -18,8 +18,8 @@ abbrev pub number : ℕ → (ℕ → Bool) → ℕ
 number zero f = 0
 number (suc d) f = cond (f 0) 1 0 + 2 * number d (λ j. f (suc j))
 
-abbrev pub word : ℕ → Packing ℕ Bool
-word d = record { lawful = λ a. ltb a (2 ^ d); coefficient = bit; pack = number d }
+abbrev pub binary : ℕ → Packing ℕ Bool
+binary d = record { lawful = λ a. ltb a (2 ^ d); coefficient = bit; pack = number d }
 
 abbrev pub bits : ℕ → Ring ℕ
-bits d = truncated two (word d) d
+bits d = truncated two (binary d) d

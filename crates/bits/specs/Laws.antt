@@ -10,7 +10,7 @@ use Rattle.ring.specs.Ring.{Laws}
 use Rattle.ring.specs.Truncated.{Field, Packs}
 use Rattle.ring.proofs.Truncated.{truncated-laws}
 use Rattle.bits.specs.Two.{two}
-use Rattle.bits.specs.Bits.{odd, bit, number, word, bits}
+use Rattle.bits.specs.Bits.{odd, bit, number, binary, bits}
 
 pub bit-zero : (a : ℕ) → bit a 0 ≡ odd a
 bit-zero a = ap (λ (n : ℕ). odd (a / n)) (pow-zero 2) ∙ ap odd (div-one a)
@@ -60,8 +60,8 @@ number-back (suc d) a h =
     let rest : number d (λ j. bit a (suc j)) ≡ a / 2 = number-first d _ _ (λ j _. bit-suc a j) ∙ number-back d (a / 2) (omega arith) in
     ap₂ (λ (x y : ℕ). x + 2 * y) (ap (λ (b : Bool). cond b 1 0) (bit-zero a) ∙ odd-rest a) rest ∙ (let s : a % 2 + 2 * (a / 2) ≡ a = omega arith in s)
 
-pub word-packs : (d : ℕ) → Packs (word d) d
-word-packs d = record {
+pub binary-packs : (d : ℕ) → Packs (binary d) d
+binary-packs d = record {
   inside = λ f. lt→ltb (number d f) (2 ^ d) (number-below d f);
   reads = number-reads d;
   first = number-first d;
@@ -76,4 +76,4 @@ pub two-distinct : true ≢ false
 two-distinct e = subst T e tt
 
 pub bits-laws : (d : ℕ) → 1 ≤ d → d ≤ 31 → Laws (bits d)
-bits-laws d low high = truncated-laws two (word-packs d) two-field two-distinct low high
+bits-laws d low high = truncated-laws two (binary-packs d) two-field two-distinct low high

@@ -1,4 +1,3 @@
 pub mod Two
 pub mod Bits
 pub mod Laws
-pub mod Making

@@ -1,5 +1,5 @@
 -- The field of two elements.
-use mathlib.Core.Path.{_≡_, refl}
+use mathlib.Core.Path.{refl}
 use mathlib.Core.Bool.{Bool, true, false}
 use Rattle.ring.specs.Commutative.{CommRing}
 

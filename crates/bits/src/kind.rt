@@ -1,5 +1,4 @@
 // Where bit polynomials are cut.
-ghost use mathlib.Core.Path.{_≡_};
 ghost use Prim.Native.Nat.{_≤_};
 
 #[derive(Clone, Copy)]

@@ -1,11 +1,11 @@
 // Kind B: polynomials in x over the field of two elements, cut at x^d, in one word with the coefficient of x^j in bit j.
 ghost use mathlib.Core.Path.{_≡_};
-ghost use Prim.Native.Nat.{ℕ, _-_, _^_, _≤_};
-ghost use lib.Dec.{T};
+ghost use mathlib.Core.Logic.{_≢_, _⊎_};
+ghost use mathlib.Core.List.{[], _∷_};
+ghost use Prim.Native.Nat.{_-_, _^_, _<_};
 ghost use Rattle.ring.specs.Refusals.{Call};
 ghost use Rattle.bits.specs.Bits.{bits};
 ghost use Rattle.bits.specs.Laws.{bits-laws};
-ghost use Rattle.bits.specs.Making.{rows};
 
 mod kind;
 
@@ -14,9 +14,9 @@ use ring::Kind;
 use ring::Refusal;
 
 impl Bits {
-    // The kind of base `p`, which is 2, and depth `d`, from 1 to 31.
+    // Bit polynomials cut at x^`d`; refused if `p` is not 2, or else if `d` is not 1 to 31.
     pub fn new(p: u32, d: usize) -> Result<Bits, Refusal>
-        ensures { λ r. ⌜ Call (rows p d) r (λ k. k .depth ≡ d) (Unit {0}) ⌝ }
+        ensures { λ r. ⌜ Call ((p ≢ 2, Refusal.Base) ∷ ((d ≡ 0) ⊎ (31 < d), Refusal.Depth) ∷ []) r (λ k. k .depth ≡ d) (Unit {0}) ⌝ }
     {
         if p != 2 {
             return Err(Refusal::Base);

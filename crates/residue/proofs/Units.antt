@@ -6,11 +6,12 @@ use native.Mathlib.Nat.{mod-eq-of-lt, mod-lt, mod-mod-of-dvd, dvd-mul-left, pow-
 use native.Mathlib.Omega.{arith}
 use lib.Dec.{T, ltb}
 use Rattle.ring.specs.Ring.{Ring-laws, power}
+use Rattle.ring.proofs.Remainders.{mul-mod-left}
 use Rattle.ring.proofs.Units.{Inverts, inverts-whole}
 use Rattle.inverses.specs.Bases.{listed, Inverse}
 use Rattle.inverses.proofs.Bases.{listed-low}
 use Rattle.residue.specs.Modulo.{modulo}
-use Rattle.residue.specs.Laws.{mul-mod-left, power-one, ring-laws, powers, powers-end, minus, minus-lawful, below-lawful, inverse-modulo}
+use Rattle.residue.specs.Laws.{power-one, ring-laws, powers, powers-end, minus, minus-lawful, below-lawful, inverse-modulo}
 
 module _ (p d : ℕ) (h : T (listed p)) (deep : 1 ≤ d) where
   low : 2 ≤ p

@@ -2,26 +2,18 @@
 use mathlib.Core.Path.{_≡_, refl, sym, ap, subst, _∙_}
 use mathlib.Core.Logic.{_≢_}
 use Prim.Native.Nat.{ℕ, zero, suc, _+_, _-_, _*_, _/_, _%_, _^_, _<_, _≤_}
-use native.Mathlib.Nat.{add-comm, add-assoc, mul-comm, mul-assoc, mul-left-comm, mul-one, mul-add, add-mul, mod-add-mod, add-mod-mod, mod-eq-of-lt, mod-lt, mod-self, add-mod-right, mod-add-div, div-add-mod, div-add-mod', add-mul-mod-self-left, pow-zero, pow-suc, pow-le-pow-right, mul-lt-mul-of-pos-left, le-mul-of-pos-right, le-trans, lt-of-lt-of-le, le-refl, zero-mod, zero-mul, one-mul, not-le-of-lt, lt-of-not-le, div-lt-self}
+use native.Mathlib.Nat.{add-comm, add-assoc, mul-comm, mul-assoc, mul-left-comm, mul-one, mul-add, mod-add-mod, add-mod-mod, mod-eq-of-lt, mod-lt, mod-self, add-mod-right, mod-add-div, div-add-mod, div-add-mod', add-mul-mod-self-left, pow-zero, pow-suc, pow-le-pow-right, mul-lt-mul-of-pos-left, le-mul-of-pos-right, le-trans, lt-of-lt-of-le, le-refl, zero-mod, zero-mul, one-mul, not-le-of-lt, lt-of-not-le, div-lt-self}
 use native.Mathlib.Omega.{arith}
 use native.Mathlib.Decide.{ℕ-discrete}
 use lib.Dec.{T, ltb, ltb→lt, lt→ltb}
 use Rattle.ring.specs.Ring.{Ring-laws, Laws, power, Unit-of, Split}
+use Rattle.ring.proofs.Remainders.{mul-mod-left, mul-mod-right}
 use Rattle.ring.proofs.Strong.{strong}
 use Rattle.ring.proofs.Units.{unit-modulo}
 use Rattle.inverses.specs.Bases.{listed}
 use Rattle.inverses.proofs.Bases.{listed-low}
 use Rattle.inverses.proofs.Rule.{has-inverse}
 use Rattle.residue.specs.Modulo.{modulo, Parts}
-
-pub mul-mod-left : (a b m : ℕ) → (a % m * b) % m ≡ (a * b) % m
-mul-mod-left a b m =
-    sym (ap (λ x. (x * b) % m) (sym (mod-add-div a m))
-    ∙ ap (λ x. x % m) (add-mul (a % m) (m * (a / m)) b ∙ ap (λ x. a % m * b + x) (mul-assoc m (a / m) b))
-    ∙ add-mul-mod-self-left (a % m * b) m (a / m * b))
-
-pub mul-mod-right : (a b m : ℕ) → (a * (b % m)) % m ≡ (a * b) % m
-mul-mod-right a b m = ap (λ x. x % m) (mul-comm a (b % m)) ∙ mul-mod-left b a m ∙ ap (λ x. x % m) (mul-comm b a)
 
 pub power-one : (p : ℕ) → p ^ 1 ≡ p
 power-one p = pow-suc p 0 ∙ ap (λ x. x * p) (pow-zero p) ∙ one-mul p

@@ -6,7 +6,7 @@ use native.Mathlib.Omega.{arith}
 use native.Mathlib.Decide.{decLt}
 use lib.Dec.{T}
 use Rattle.ring.specs.Commutative.{CommRing}
-use Rattle.ring.specs.Ring.{Ring, Ring-laws, Laws, power, Unit-of, Split}
+use Rattle.ring.specs.Ring.{Ring-laws, Laws, power, Unit-of, Split}
 use Rattle.ring.specs.Truncated.{product, monomial, Field, Packing, Packs, truncated}
 use Rattle.ring.proofs.Sums as Sums
 use Rattle.ring.proofs.Units.{unit-modulo}

@@ -1,4 +1,5 @@
 pub mod Same
 pub mod Places
-pub mod Dividing
+pub mod Adding
+pub mod Inverting
 pub mod Splitting

@@ -1,13 +1,12 @@
 -- Loops that fill eight places from the first on.
 use mathlib.Core.Path.{_≡_, refl, sym, ap, ap₂, subst, _∙_}
-use mathlib.Core.Logic.{_≢_}
-use mathlib.Core.Bool.{Bool, true, false, _&&_}
+use mathlib.Core.Bool.{Bool, true, false}
 use mathlib.Core.List.{List, [], _∷_}
 use Prim.Native.Nat.{ℕ, zero, suc, _+_, _-_, _*_, _%_, _<_, _≤_}
 use native.Mathlib.Nat.{mod-eq-of-lt, zero-mod}
 use native.Mathlib.Decide.{ℕ-discrete}
 use native.Mathlib.Omega.{arith}
-use lib.Dec.{T, eqb, ltb, ltb→lt, lt→ltb}
+use lib.Dec.{T, eqb, ltb, lt→ltb}
 use lib.ListN.{length, getD, set, length-set}
 use lib.Seq.{getD-set-same, getD-set-other}
 use borrow.Author.Count.{below-more}
@@ -18,10 +17,10 @@ use Rattle.ring.proofs.Convolution.{monomial-same, monomial-other}
 use Rattle.inverses.specs.Bases.{listed}
 use Rattle.inverses.proofs.Bases.{listed-low}
 use Rattle.truncated.specs.declared.polynomial.Polynomial.{Polynomial}
-use Rattle.truncated.specs.Remainders.{remainder, remainders, remainder-add, remainder-mul, same-remainder}
-use Rattle.truncated.specs.Polynomials.{bound, every, fits, places, eight, polynomials}
+use Rattle.truncated.specs.Remainders.{remainder, remainders, remainder-add, remainder-mul}
+use Rattle.truncated.specs.Polynomials.{bound, fits, places, eight}
 use Rattle.truncated.specs.Laws.{every-of, places-of, lawful-bound, both}
-use Rattle.truncated.specs.Operations.{Filled, x-to, plus-scaled, product-of}
+use Rattle.truncated.specs.Operations.{Filled, product-of}
 
 abbrev pub zeros : ℕ → List ℕ
 zeros zero = []
@@ -71,12 +70,6 @@ module _ (p : ℕ) (h : T (listed p)) (d : ℕ) where
   monomial-past i le =
       places-of d _ (zeros 8) refl
       (λ j _ lt. zeros-at 8 j ∙ sym (ap (λ r. r .0) (monomial-other (remainders p h) i j (omega arith)) ∙ zero-mod p)) (λ j _ _. zeros-at 8 j)
-
-  pub plus-scaled-is : (a b : Polynomial) (c j : ℕ) → (getD (a .coefficients) j 0 + c * getD (b .coefficients) j 0) % p ≡ plus-scaled p h d a c b j .0
-  plus-scaled-is a b c j =
-      let x : ℕ = getD (a .coefficients) j 0 in
-      let y : ℕ = getD (b .coefficients) j 0 in
-      ap (λ r. r .0) (remainder-add p h x (c * y) ∙ ap (remainders p h ._⊕_ (remainder p h x)) (remainder-mul p h c y))
 
   -- the terms of the product's coefficient of x^k
   abbrev pub term : Polynomial → Polynomial → ℕ → ℕ → (n : ℕ) × T (ltb n p)

@@ -13,7 +13,7 @@ use Rattle.ring.proofs.Truncated.{split-zero, split-moved}
 use Rattle.inverses.specs.Bases.{listed}
 use Rattle.truncated.specs.declared.polynomial.Polynomial.{Polynomial}
 use Rattle.truncated.specs.Remainders.{Remainder, remainder, remainders, remainders-field, remainders-distinct}
-use Rattle.truncated.specs.Polynomials.{fits, places, eight, polynomials}
+use Rattle.truncated.specs.Polynomials.{fits, eight, polynomials}
 use Rattle.truncated.specs.Laws.{places-of, lawful-long, lawful-below, lawful-zero, eight-packs}
 use Rattle.truncated.specs.Operations.{Leading, Filled, x-to}
 

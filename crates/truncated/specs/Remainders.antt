@@ -2,7 +2,7 @@
 use mathlib.Core.Path.{_≡_, sym, ap, _∙_}
 use mathlib.Core.HLevel.{Σ-prop-path}
 use mathlib.Core.Logic.{_≢_, _⊎_, inl, inr}
-use Prim.Native.Nat.{ℕ, zero, suc, _+_, _-_, _*_, _%_, _<_, _≤_}
+use Prim.Native.Nat.{ℕ, zero, suc, _+_, _-_, _*_, _%_, _<_}
 use native.Mathlib.Nat.{add-comm, add-assoc, add-zero, mul-comm, mul-assoc, mul-one, mul-add, mod-lt, mod-eq-of-lt, mod-add-mod, add-mod-mod, mod-self, zero-mod}
 use native.Mathlib.Omega.{arith}
 use lib.Dec.{T, T-prop, ltb, ltb→lt, lt→ltb}

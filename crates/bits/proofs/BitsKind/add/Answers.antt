@@ -1,4 +1,4 @@
-use Rattle.bits.proofs.Words.{add-is}
+use Rattle.bits.proofs.Operations.{add-is}
 use Rattle.bits.proofs.BitsKind.add.Needs as need
 
 pub returns : need.returns

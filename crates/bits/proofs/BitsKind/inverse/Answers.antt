@@ -1,5 +1,5 @@
 use native.Mathlib.Omega.{arith}
-use Rattle.bits.proofs.Words.{odd-taken, even-left}
+use Rattle.bits.proofs.Operations.{odd-taken, even-left}
 use Rattle.bits.proofs.Loops.{divided-start, divided-odd, divided-even, divided-whole, unit-odd}
 use Rattle.bits.proofs.BitsKind.inverse.Needs as need
 use Rattle.bits.proofs.BitsKind.inverse.Needs.{then-rest-eq1, else-rest-eq1}

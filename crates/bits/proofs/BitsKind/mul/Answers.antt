@@ -1,5 +1,5 @@
 use native.Mathlib.Omega.{arith}
-use Rattle.bits.proofs.Words.{odd-taken, even-left}
+use Rattle.bits.proofs.Operations.{odd-taken, even-left}
 use Rattle.bits.proofs.Loops.{multiplied-start, multiplied-odd, multiplied-even, multiplied-whole}
 use Rattle.bits.proofs.BitsKind.mul.Needs as need
 use Rattle.bits.proofs.BitsKind.mul.Needs.{then-rest-eq1, else-rest-eq1}

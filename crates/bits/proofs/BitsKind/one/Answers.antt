@@ -1,4 +1,4 @@
-use Rattle.bits.proofs.Words.{one-is}
+use Rattle.bits.proofs.Operations.{one-is}
 use Rattle.bits.proofs.BitsKind.one.Needs as need
 
 pub returns : need.returns

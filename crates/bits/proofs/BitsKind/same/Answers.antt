@@ -1,4 +1,4 @@
-use mathlib.Core.Path.{_≡_, ap}
+use mathlib.Core.Path.{ap}
 use mathlib.Core.HLevel.{Σ-prop-path}
 use Prim.Native.Nat.{ℕ, _≤_}
 use denote.Struct.Props.{props}

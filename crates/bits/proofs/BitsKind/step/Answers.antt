@@ -1,4 +1,4 @@
-use Rattle.bits.proofs.Words.{step-is}
+use Rattle.bits.proofs.Operations.{step-is}
 use Rattle.bits.proofs.BitsKind.step.Needs as need
 
 pub returns : need.returns

@@ -1,4 +1,4 @@
-use Rattle.bits.proofs.Words.{add-is}
+use Rattle.bits.proofs.Operations.{add-is}
 use Rattle.bits.proofs.BitsKind.sub.Needs as need
 
 pub returns : need.returns

@@ -1,4 +1,4 @@
-use Rattle.bits.proofs.Words.{zero-is}
+use Rattle.bits.proofs.Operations.{zero-is}
 use Rattle.bits.proofs.BitsKind.zero.Needs as need
 
 pub returns : need.returns

@@ -1,5 +1,5 @@
 use mathlib.Core.Path.{_∙_}
-use Rattle.truncated.proofs.Dividing.{add-is}
+use Rattle.truncated.proofs.Adding.{add-is}
 use Rattle.truncated.proofs.TruncatedKind.add.Needs as need
 
 pub returns : need.returns

@@ -1,8 +1,7 @@
-use mathlib.Core.Path.{_≡_, refl}
-use Prim.Native.Nat.{ℕ, _≤_, _<_}
+use mathlib.Core.Path.{refl}
 use native.Mathlib.Omega.{arith}
 use Rattle.truncated.specs.Laws.{lawful-below}
-use Rattle.truncated.proofs.Dividing.{inverted-start, inverted-next, inverted-whole, unit-constant}
+use Rattle.truncated.proofs.Inverting.{inverted-start, inverted-next, inverted-whole, unit-constant}
 use Rattle.truncated.proofs.TruncatedKind.inverse.Needs as need
 
 pub loop-k-holds : need.loop-k-holds

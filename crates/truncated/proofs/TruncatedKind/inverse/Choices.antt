@@ -1,6 +1,6 @@
 use Prim.Native.Nat.{_≤_, _<_}
 use lib.ListN.{getD}
-use Rattle.truncated.proofs.Dividing.{Inverted}
+use Rattle.truncated.proofs.Inverting.{Inverted}
 use Rattle.truncated.proofs.TruncatedKind.inverse.Given as given
 
 abbrev pub Inv-loop-k : given.InvT-loop-k

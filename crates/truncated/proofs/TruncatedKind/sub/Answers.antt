@@ -1,5 +1,5 @@
 use mathlib.Core.Path.{_∙_}
-use Rattle.truncated.proofs.Dividing.{sub-is}
+use Rattle.truncated.proofs.Adding.{sub-is}
 use Rattle.truncated.proofs.TruncatedKind.sub.Needs as need
 
 pub returns : need.returns

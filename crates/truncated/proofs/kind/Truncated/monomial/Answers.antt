@@ -1,6 +1,5 @@
 use native.Mathlib.Omega.{arith}
-use lib.ListN.{set}
-use Rattle.truncated.proofs.Places.{zeros, same-places, monomial-places, monomial-past}
+use Rattle.truncated.proofs.Places.{same-places, monomial-places, monomial-past}
 use Rattle.truncated.proofs.kind.Truncated.monomial.Needs as need
 
 pub returns-then-i-self : need.returns-then-i-self

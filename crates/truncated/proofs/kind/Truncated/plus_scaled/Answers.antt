@@ -1,6 +1,7 @@
 use native.Mathlib.Omega.{arith}
 use Rattle.truncated.specs.Operations.{plus-scaled}
-use Rattle.truncated.proofs.Places.{filled-more, filled-whole, same-places, plus-scaled-is}
+use Rattle.truncated.proofs.Adding.{plus-scaled-is}
+use Rattle.truncated.proofs.Places.{filled-more, filled-whole, same-places}
 use Rattle.truncated.proofs.kind.Truncated.plus_scaled.Needs as need
 
 pub loop-j-again : need.loop-j-again

@@ -14,8 +14,8 @@ use Rattle.ring.specs.Truncated.{product, monomial}
 use Rattle.ring.proofs.Convolution.{monomial-below, monomial-from}
 use Rattle.ring.proofs.Truncated.{cut-left, step-power}
 use Rattle.bits.specs.Two.{two, xor}
-use Rattle.bits.specs.Bits.{odd, bit, number, word, bits}
-use Rattle.bits.specs.Laws.{bit-zero, bit-suc, odd-rest, word-packs}
+use Rattle.bits.specs.Bits.{odd, bit, number, bits}
+use Rattle.bits.specs.Laws.{bit-zero, bit-suc, odd-rest, binary-packs}
 
 low-differ : (x r s : ℕ) → r < 2 → s < 2 → odd (x * 2 + differ r s) ≡ xor (eqb r 1) (eqb s 1)
 low-differ x zero zero hr hs = ap (λ (n : ℕ). eqb n 1) (let e : (x * 2 + 0) % 2 ≡ 0 = omega arith in e)
@@ -36,7 +36,7 @@ bit-xor a b j = ap odd (xor-shr a b j) ∙ odd-xor (a / 2 ^ j) (b / 2 ^ j)
 number-mod : (d a : ℕ) → number d (bit a) ≡ a % 2 ^ d
 number-mod zero a = let e = mod-lt a {m = 1} (omega arith) in let f = pow-zero 2 in rw pow-zero (omega arith)
 number-mod (suc d) a =
-    let rest : number d (λ j. bit a (suc j)) ≡ a / 2 % 2 ^ d = word-packs d .first _ _ (λ j _. bit-suc a j) ∙ number-mod d (a / 2) in
+    let rest : number d (λ j. bit a (suc j)) ≡ a / 2 % 2 ^ d = binary-packs d .first _ _ (λ j _. bit-suc a j) ∙ number-mod d (a / 2) in
     let low : cond (bit a 0) 1 0 ≡ a % 2 = ap (λ (b : Bool). cond b 1 0) (bit-zero a) ∙ odd-rest a in
     let m = mod-mul a {m = 2 ^ d} {c = 2} (pow-pos d) (omega arith) in
     ap₂ (λ (x y : ℕ). x + 2 * y) low rest ∙ (let e : a % 2 + 2 * (a / 2 % 2 ^ d) ≡ a % (2 ^ d * 2) = omega (arith, m) in e) ∙ ap (λ (n : ℕ). a % n) (sym (pow-suc 2 d))
@@ -68,14 +68,14 @@ module _ (d : ℕ) where
   Fits a = T (ltb a (2 ^ d))
 
   pub zero-is : 0 ≡ bits d .zero
-  zero-is = sym (zero-mod (2 ^ d)) ∙ sym (number-mod d 0) ∙ word-packs d .first _ _ (λ j _. bit-none j)
+  zero-is = sym (zero-mod (2 ^ d)) ∙ sym (number-mod d 0) ∙ binary-packs d .first _ _ (λ j _. bit-none j)
 
   monomial-is : (i : ℕ) → 2 ^ i % 2 ^ d ≡ number d (monomial two i)
-  monomial-is i = sym (number-mod d (2 ^ i)) ∙ word-packs d .first _ _ (λ j _. bit-power i j)
+  monomial-is i = sym (number-mod d (2 ^ i)) ∙ binary-packs d .first _ _ (λ j _. bit-power i j)
 
   -- 1 shifted left by i is step^i
   pub power-is : (i : ℕ) → i < d → 2 ^ i ≡ power (bits d) (bits d .step) i
-  power-is i h = sym (mod-eq-of-lt (pow-lt h)) ∙ monomial-is i ∙ sym (step-power two (word-packs d) i)
+  power-is i h = sym (mod-eq-of-lt (pow-lt h)) ∙ monomial-is i ∙ sym (step-power two (binary-packs d) i)
 
   pub one-is : 1 ≤ d → 1 ≡ bits d .one
   one-is low = sym (mod-eq-of-lt (let h : 2 ^ 0 < 2 ^ d = pow-lt low in h)) ∙ monomial-is 0
@@ -85,11 +85,11 @@ module _ (d : ℕ) where
 
   pub add-is : (a b : ℕ) → T (ltb a (2 ^ d)) → T (ltb b (2 ^ d)) → bitXor a b ≡ bits d .add a b
   add-is a b ha hb =
-      sym (word-packs d .first _ _ (λ j _. sym (bit-xor a b j))
-      ∙ word-packs d .back (bitXor a b) (lt→ltb (bitXor a b) (2 ^ d) (xor-lt d a b (ltb→lt a (2 ^ d) ha) (ltb→lt b (2 ^ d) hb))))
+      sym (binary-packs d .first _ _ (λ j _. sym (bit-xor a b j))
+      ∙ binary-packs d .back (bitXor a b) (lt→ltb (bitXor a b) (2 ^ d) (xor-lt d a b (ltb→lt a (2 ^ d) ha) (ltb→lt b (2 ^ d) hb))))
 
   double-is : (x : ℕ) → bits d .mul (bits d .step) x ≡ (2 * x) % 2 ^ d
-  double-is x = word-packs d .first _ _ (λ j h. cut-left two (word-packs d) (monomial two 1) (bit x) j h ∙ at j) ∙ number-mod d (2 * x)
+  double-is x = binary-packs d .first _ _ (λ j h. cut-left two (binary-packs d) (monomial two 1) (bit x) j h ∙ at j) ∙ number-mod d (2 * x)
     where
       at : (j : ℕ) → product two (monomial two 1) (bit x) j ≡ bit (2 * x) j
       at zero = monomial-below two 1 0 (bit x) (omega arith) ∙ sym (bit-zero (2 * x) ∙ even-twice x)

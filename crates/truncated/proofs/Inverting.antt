@@ -1,12 +1,12 @@
--- The loop that inverts a unit, a coefficient a turn; and the sum and difference.
-use mathlib.Core.Path.{_≡_, refl, sym, ap, ap₂, subst, _∙_}
+-- The loop that inverts a unit, a coefficient a turn.
+use mathlib.Core.Path.{_≡_, refl, sym, ap, subst, _∙_}
 use mathlib.Core.Logic.{_≢_}
 use mathlib.Core.List.{List}
 use Prim.Native.Nat.{ℕ, zero, suc, _+_, _-_, _*_, _%_, _<_, _≤_}
-use native.Mathlib.Nat.{mod-eq-of-lt, mod-lt, mod-self, zero-mod}
+use native.Mathlib.Nat.{mod-eq-of-lt, mod-lt}
 use native.Mathlib.Decide.{decLt, ℕ-discrete}
 use native.Mathlib.Omega.{arith}
-use lib.Dec.{T, ltb, ltb→lt}
+use lib.Dec.{T}
 use lib.ListN.{length, getD, set, length-set}
 use lib.Seq.{getD-set-same, getD-set-other}
 use Rattle.ring.specs.Commutative.{CommRing}
@@ -19,30 +19,14 @@ use Rattle.ring.proofs.Truncated.{truncated-ring}
 use Rattle.inverses.specs.Bases.{listed, Inverse}
 use Rattle.inverses.proofs.Bases.{listed-low}
 use Rattle.truncated.specs.declared.polynomial.Polynomial.{Polynomial}
-use Rattle.truncated.specs.Remainders.{Remainder, remainder, remainders, remainder-add, remainder-mul, remainder-same, remainders-distinct, same-remainder}
-use Rattle.truncated.specs.Polynomials.{fits, places, eight, polynomials}
-use Rattle.truncated.specs.Laws.{places-of, lawful-below, eight-packs}
-use Rattle.truncated.specs.Operations.{plus-scaled, product-of}
+use Rattle.truncated.specs.Remainders.{Remainder, remainder, remainders, remainder-mul, remainders-distinct, same-remainder}
+use Rattle.truncated.specs.Polynomials.{fits, places, polynomials}
+use Rattle.truncated.specs.Laws.{places-of, eight-packs}
 use Rattle.truncated.proofs.Places.{zeros, zeros-at}
 
 module _ (p : ℕ) (h : T (listed p)) (d : ℕ) (high : d ≤ 8) where
   abbrev F : CommRing (Remainder p)
   F = remainders p h
-
-  pub add-is : (a b : Polynomial) → eight p h d .pack (plus-scaled p h d a 1 b) ≡ polynomials p h d .add a b
-  add-is a b = eight-packs p h d high .first _ _ (λ j _. ap (F ._⊕_ (eight p h d .coefficient a j)) (Sums.one-mul F (eight p h d .coefficient b j)))
-
-  pub sub-is : (a b : Polynomial) → eight p h d .pack (plus-scaled p h d a (p - 1) b) ≡ polynomials p h d .sub a b
-  sub-is a b = eight-packs p h d high .first _ _ (λ j _. ap (F ._⊕_ (eight p h d .coefficient a j)) (minus (eight p h d .coefficient b j)))
-    where
-      whole : F ._⊕_ (remainder p h (p - 1)) (F .𝟙) ≡ F .𝟘
-      whole = sym (remainder-add p h (p - 1) 1)
-          ∙ same-remainder p h (ap (λ (n : ℕ). n % p) (let s : p - 1 + 1 ≡ p = omega (arith, listed-low p h) in s) ∙ mod-self p ∙ sym (zero-mod p))
-
-      minus : (r : Remainder p) → F ._⊗_ (remainder p h (p - 1)) r ≡ F .⊖_ r
-      minus r = Sums.neg-of F _ r
-          (ap (F ._⊕_ (F ._⊗_ (remainder p h (p - 1)) r)) (sym (Sums.one-mul F r)) ∙ sym (Sums.distrib-right F (remainder p h (p - 1)) (F .𝟙) r)
-          ∙ ap (λ x. F ._⊗_ x r) whole ∙ Sums.zero-mul F r)
 
   -- the coefficients in some places
   abbrev pub at : List ℕ → ℕ → Remainder p
