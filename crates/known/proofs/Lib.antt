@@ -1,4 +1,5 @@
 pub mod Tests
+pub mod Finite
 pub mod Entries
 pub mod Table
 pub mod Lengths

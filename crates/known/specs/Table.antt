@@ -2,26 +2,45 @@
 use mathlib.Core.Bool.{true, false}
 use mathlib.Core.List.{List, [], _∷_, map}
 use Prim.Native.Nat.{ℕ}
+use lib.Dec.{T}
 use lib.ListN.{getD}
 use Rattle.std.specs.shelf.Lists.{All}
 use Rattle.ring.specs.Ring.{Ring}
+use Rattle.inverses.specs.Bases.{listed}
 use Rattle.recurrence.specs.declared.shape.Level.{Level}
 use Rattle.residue.specs.Modulo.{modulo}
 use Rattle.bits.specs.Bits.{bits as bit-polynomials}
+use Rattle.truncated.specs.declared.polynomial.Polynomial.{Polynomial}
+use Rattle.truncated.specs.Polynomials.{polynomials}
 use Rattle.known.specs.Entries.{Entry, long-is, one-channel, Yields}
 
--- the kinds: numbers modulo p^d, and polynomials in x over the field of two elements, cut at x^d, in one word
+-- the kinds: numbers modulo p^d; polynomials in x over the numbers modulo p, cut at x^d; the same for p = 2 in one word
 pub data Kind : Type 0 where
   residues : ℕ → ℕ → Kind
+  truncated : (p : ℕ) → T (listed p) → ℕ → Kind
   bits : ℕ → Kind
 
 abbrev pub Element : Kind → Type 0
 Element (residues p d) = ℕ
+Element (truncated p h d) = Polynomial
 Element (bits d) = ℕ
 
 abbrev pub ring : (k : Kind) → Ring (Element k)
 ring (residues p d) = modulo p d
+ring (truncated p h d) = polynomials p h d
 ring (bits d) = bit-polynomials d
+
+pub two-listed : T (listed 2)
+unfolding listed
+two-listed = tt
+
+pub three-listed : T (listed 3)
+unfolding listed
+three-listed = tt
+
+-- a + b x
+abbrev pub linear : ℕ → ℕ → Polynomial
+linear a b = record { coefficients = a ∷ b ∷ 0 ∷ 0 ∷ 0 ∷ 0 ∷ 0 ∷ 0 ∷ [] }
 
 pub record Row : Type 0 where
   pub kind : Kind
@@ -45,7 +64,43 @@ no-words = record {
   };
 }
 
--- the words 1, 1 + x, 1, 1 + x, in one word modulo 2 cut at x²
+-- modulo 3, cut at x², the words 1, 1 + x, 1, 1 + x; y² + x y + 2 + 2 x and y + 2 are tried
+abbrev pub ternary : Row
+ternary = record {
+  kind = truncated 3 three-listed 2;
+  entry = record {
+    channels = 1;
+    words = one-channel (linear 1 0 ∷ linear 1 1 ∷ linear 1 0 ∷ linear 1 1 ∷ []);
+    levels = long-is 2 ∷ long-is 1 ∷ [];
+    memory =
+        linear 2 2 ∷ linear 0 1 ∷ linear 1 0 ∷ linear 0 0 ∷ linear 0 0
+        ∷ linear 0 2 ∷ linear 0 1 ∷ linear 0 0 ∷ linear 0 0 ∷ linear 0 0
+        ∷ [];
+    settled = true;
+    next = one-channel (linear 1 0 ∷ linear 1 1 ∷ []);
+    tried = (linear 2 2 ∷ linear 0 1 ∷ linear 1 0 ∷ [], 0) ∷ (linear 2 0 ∷ linear 1 0 ∷ [], 2) ∷ [];
+  };
+}
+
+-- the same words modulo 2
+abbrev pub binary : Row
+binary = record {
+  kind = truncated 2 two-listed 2;
+  entry = record {
+    channels = 1;
+    words = one-channel (linear 1 0 ∷ linear 1 1 ∷ linear 1 0 ∷ linear 1 1 ∷ []);
+    levels = long-is 1 ∷ long-is 1 ∷ [];
+    memory =
+        linear 1 1 ∷ linear 1 0 ∷ linear 0 0 ∷ linear 0 0 ∷ linear 0 0
+        ∷ linear 0 1 ∷ linear 0 1 ∷ linear 0 0 ∷ linear 0 0 ∷ linear 0 0
+        ∷ [];
+    settled = true;
+    next = one-channel (linear 1 0 ∷ linear 1 1 ∷ []);
+    tried = [];
+  };
+}
+
+-- and modulo 2 in one word
 abbrev pub binary-in-words : Row
 binary-in-words = record {
   kind = bits 2;
@@ -150,7 +205,7 @@ two-channels = record {
 }
 
 abbrev pub table : List Row
-table = no-words ∷ late ∷ even ∷ step-alone ∷ one-alone ∷ two-channels ∷ binary-in-words ∷ []
+table = no-words ∷ ternary ∷ binary ∷ late ∷ even ∷ step-alone ∷ one-alone ∷ two-channels ∷ binary-in-words ∷ []
 
 -- the levels of each row
 abbrev pub all-levels : List (List Level)
