@@ -8,9 +8,12 @@ use ring::Refusal;
 use std::io;
 use std::io::BufRead;
 use std::io::BufReader;
+use truncated::Truncated;
+use truncated::TruncatedKind;
 use vectors::BitsWritten;
 use vectors::Fields;
 use vectors::ResidueWritten;
+use vectors::TruncatedWritten;
 use vectors::Written;
 
 enum Answer<E> {
@@ -101,6 +104,7 @@ fn main(rt: LibcRuntime) -> io::Result<()> {
         let mut fields = Fields::new(line.as_str());
         match fields.word() {
             "Z" => print::<Residue, LibcRuntime>(&rt, carry_out::<Residue>(&mut fields))?,
+            "T" => print::<Truncated, LibcRuntime>(&rt, carry_out::<Truncated>(&mut fields))?,
             "B" => print::<Bits, LibcRuntime>(&rt, carry_out::<Bits>(&mut fields))?,
             _ => rt.println("unreadable")?,
         }
