@@ -12,7 +12,7 @@ use Rattle.ring.specs.Ring.{Ring, Laws}
 use Rattle.recurrence.specs.Memory.{at, Unlawful}
 use Rattle.recurrence.specs.Polynomials.{Lawful}
 
-stable : (b : Bool) → (¬ (¬ T b)) → T b
+pub stable : (b : Bool) → (¬ (¬ T b)) → T b
 stable true h = tt
 stable false h = absurd (h (λ x. x))
 

@@ -1,0 +1,4 @@
+pub mod Histories
+pub mod Main
+pub mod Rooms
+pub mod Prefixes
