@@ -94,12 +94,17 @@ pub fn stacked<K: Kind>(
 #[cfg(test)]
 mod tests {
     use super::*;
+    use bits::Bits;
+    use bits::BitsKind;
     use registers::check_loop;
     use registers::check_register;
     use sources::adapters::check_scaling;
     use sources::adapters::check_stride;
     use sources::adapters::check_sum;
     use std::test::*;
+    use truncated::Polynomial;
+    use truncated::Truncated;
+    use truncated::TruncatedKind;
 
     // The number of the refusal, or 0.
     fn refusal(answer: Result<(), Refusal>) -> u8 {
@@ -202,5 +207,54 @@ mod tests {
         check_eq(out, [2, 1, 0, 3, 2, 1])?;
         count_by(Counter { kind, count: 2 }, 65_537, &mut out);
         check_eq(out, [0; 6])
+    }
+
+    #[test]
+    fn words_of_bits() -> Result<(), Fail> {
+        let Ok(kind) = Bits::new(2, 3) else {
+            return Err(Fail::new("no kind"));
+        };
+        let mut out = [0u32; 6];
+        stacked(kind, &[3, 6, 1], &mut [1, 5], &[7, 2, 4], 5, &mut out);
+        check_eq(out, [2, 5, 3, 2, 1, 3])
+    }
+
+    // a + b x
+    fn linear(a: u8, b: u8) -> Polynomial {
+        Polynomial {
+            coefficients: [a, b, 0, 0, 0, 0, 0, 0],
+        }
+    }
+
+    // The coefficients of a polynomial modulo x^2.
+    fn parts(p: Polynomial) -> (u8, u8) {
+        (p.coefficients[0], p.coefficients[1])
+    }
+
+    #[test]
+    fn words_of_polynomials() -> Result<(), Fail> {
+        let Ok(kind) = Truncated::new(3, 2) else {
+            return Err(Fail::new("no kind"));
+        };
+        let coefficients = [linear(1, 2), linear(2, 1), linear(1, 0)];
+        let mut stages = [linear(1, 1), linear(0, 2)];
+        let elements = [linear(2, 2), linear(1, 0), linear(0, 1)];
+        let mut out = [linear(0, 0); 6];
+        stacked(
+            kind,
+            &coefficients,
+            &mut stages,
+            &elements,
+            linear(2, 1),
+            &mut out,
+        );
+        check_eq(
+            (parts(out[0]), parts(out[1]), parts(out[2])),
+            ((1, 2), (0, 2), (2, 0)),
+        )?;
+        check_eq(
+            (parts(out[3]), parts(out[4]), parts(out[5])),
+            ((0, 0), (0, 2), (0, 1)),
+        )
     }
 }
