@@ -18,32 +18,21 @@ use Rattle.ring.specs.Lawful.{Lawful as Element, lifted, cells}
 use Rattle.ring.proofs.Lifts as Lifts
 use Rattle.recurrence.specs.declared.shape.Shape.{Shape}
 use Rattle.recurrence.specs.declared.shape.Level.{Level}
-use Rattle.recurrence.specs.Memory.{at, Unlawful}
+use Rattle.recurrence.specs.Memory.{at}
 use Rattle.recurrence.specs.Polynomials.{Degree}
-use Rattle.recurrence.specs.Words.{words, Lawful-words, Cancels, Least}
+use Rattle.recurrence.specs.Words.{words, Cancels, Least}
 use Rattle.recurrence.specs.Findings.{blank, long, extent, row, Finding}
 use Rattle.recurrence.proofs.Captures.{Capture, Monic}
 use Rattle.recurrence.proofs.Bridge as Bridge
-use Rattle.memory.proofs.Elements.{lawful-below}
 use Rattle.recurrence.proofs.Rows.{row-at, row-past}
 use Rattle.elimination.specs.Rows.{capture-of, Held}
-use Rattle.elimination.proofs.Places.{wide, place-of, word-below, channel-below, row-within}
+use Rattle.elimination.proofs.Places.{wide, row-within}
 use Rattle.elimination.proofs.Parts.{part-none}
 use Rattle.remainder.specs.Calls.{Short-words, Short-finding}
 use Rattle.annihilator.specs.Calls.{work-size}
 use Rattle.annihilator.specs.Levels.{row-of, Found, Before}
 use Rattle.annihilator.specs.Rounds.{Tables, AllBefore, Solved}
 use Rattle.annihilator.proofs.Turns.{part-row}
-
--- whether the words held are lawful, by word and by place
-module _ {E : Type 0} (R : Ring E) (shape : Shape) (ws : List E) where
-  pub words-lawful : ¬ Unlawful R ws (shape .count .words * shape .channels) → Lawful-words R (shape .channels) (shape .count .words) (words R shape ws)
-  words-lawful none k c hk hc = lawful-below R ws (shape .count .words * shape .channels) none (k * shape .channels + c) (Bridge.place-below (shape .count .words) (shape .channels) k c hk hc)
-
-  pub words-foreign : Unlawful R ws (shape .count .words * shape .channels) → ¬ Lawful-words R (shape .channels) (shape .count .words) (words R shape ws)
-  words-foreign u ok =
-      let q = u .0 in
-      u .2 (subst (λ z. T (R .lawful (at R ws z))) (place-of shape q) (ok (q / shape .channels) (q % shape .channels) (word-below shape q (u .1)) (channel-below shape q)))
 
 -- no memory is short
 pub enough : {E : Type 0} (R : Ring E) (shape : Shape) (ws fm work : List E) → shape .capacity * shape .channels ≤ length ws → extent R (shape .count .words) ≤ length fm → work-size R shape ≤ length work

@@ -4,7 +4,6 @@ use mathlib.Core.Bool.{Bool}
 use mathlib.Core.List.{List, []}
 use mathlib.Core.Logic.{_⊎_, inl, inr, ⊎-elim}
 use Prim.Native.Nat.{ℕ, _+_, _*_, _/_, _%_, _<_, _≤_}
-use native.Mathlib.Nat.{mul-le-mul-right, div-add-mod', div-lt-iff-lt-mul, mod-lt}
 use native.Mathlib.Omega.{arith}
 use lib.Dec.{T}
 use lib.ListN.{length, take, drop}
@@ -17,7 +16,7 @@ use Rattle.recurrence.specs.declared.shape.Level.{Level}
 use Rattle.recurrence.specs.Memory.{at, Unlawful}
 use Rattle.recurrence.specs.Words.{place, words, Lawful-words, run}
 use Rattle.recurrence.specs.Findings.{long, Formed, run-of}
-use Rattle.memory.proofs.Elements.{lawful-below}
+use Rattle.memory.proofs.Held.{room-held, words-lawful, words-foreign}
 use Rattle.remainder.specs.Calls.{Short-words, Foreign-words, Short-finding, Foreign-finding, running-on}
 use Rattle.remainder.specs.Judging.{Sound, judging}
 use Rattle.remainder.proofs.Forms.{row-lawful}
@@ -32,22 +31,10 @@ module _ (s : Shape) where
   abbrev n : ℕ
   n = s .channels
 
-  -- the words held have room where the capacity has
-  pub room-held : (size : ℕ) → s .capacity * n ≤ size → e * n ≤ size
-  room-held size h = omega (arith, mul-le-mul-right n (s .ok .0))
-
   pub roomy : {E : Type 0} (ws : List E) → s .capacity * n ≤ length ws → Roomy s ws
-  roomy ws h k c hk hc = omega (arith, place-inside e n k c hk hc, room-held (length ws) h)
+  roomy ws h k c hk hc = omega (arith, place-inside e n k c hk hc, room-held s (length ws) h)
 
   module _ {E : Type 0} (R : Ring E) (ws : List E) where
-    pub words-lawful : ¬ Unlawful R ws (e * n) → Lawful-words R n e (words R s ws)
-    words-lawful h k c hk hc = lawful-below R ws (e * n) h (place s k c) (place-inside e n k c hk hc)
-
-    pub words-foreign : Unlawful R ws (e * n) → Foreign-words R s ws
-    words-foreign (j, below, wrong) lawful =
-        let wide : 0 < n = s .ok .2 in
-        wrong (subst (λ (i : ℕ). T (R .lawful (at R ws i))) (div-add-mod' j n) (lawful (j / n) (j % n) (div-lt-iff-lt-mul wide .1 below) (mod-lt j wide)))
-
     -- a finding that the judge refuses is refused for the same reason
     pub refuses-running-on : (levels : List Level) (fm out : List E) (r : Refusal) (lawful : Bool)
         → (T lawful → ¬ Unlawful R ws (e * n)) → (¬ T lawful → Unlawful R ws (e * n)) → length out % n ≡ 0 → ¬ Short-words s ws
@@ -58,7 +45,7 @@ module _ (s : Shape) where
           refuses-as (Short-finding R s fm) (Short-words s ws ⊎ Short-finding R s fm) (Foreign-finding R s fm ⊎ (¬ T lawful)) (Foreign-words R s ws ⊎ Foreign-finding R s fm)
               (¬ Formed R e levels fm) [] r
               (inr, ⊎-elim (λ z. absurd (room z)) (λ z. z))
-              (⊎-elim inr (λ z. inl (words-foreign (wrong z))), ⊎-elim (λ z. inr (λ t. z (words-lawful (right t)))) inl)
+              (⊎-elim inr (λ z. inl (words-foreign s R ws (wrong z))), ⊎-elim (λ z. inr (λ t. z (words-lawful s R ws (right t)))) inl)
               judged,
         )
 
@@ -68,14 +55,14 @@ module _ (s : Shape) where
     pub ready : Ready R s ws (long levels 0) (at R part)
     ready = record {
       room = roomy ws room;
-      words = words-lawful R ws right;
+      words = words-lawful s R ws right;
       polynomial = λ j. lawful-at L (ap (λ (l : List E). at R l j) is) (row-lawful L s levels fm sound 0 (L .depth-low) j);
       short = sound .formed .short 0 (L .depth-low);
     }
 
     pub passes-running-on : (out : List E) → length out % n ≡ 0 → Passes (running-on R s levels fm ws out)
     passes-running-on out whole =
-        ((λ z. z whole), (⊎-elim (λ z. omega arith) (λ z. omega (arith, sound .room)), (⊎-elim (λ z. z (words-lawful R ws right)) (sound .lawful), ((λ z. z (sound .formed)), tt))))
+        ((λ z. z whole), (⊎-elim (λ z. omega arith) (λ z. omega (arith, sound .room)), (⊎-elim (λ z. z (words-lawful s R ws right)) (sound .lawful), ((λ z. z (sound .formed)), tt))))
 
     -- the elements of a filled buffer are the run's
     pub filled-run : (out : List E) (size : ℕ) → Filled R s ws (long levels 0) (at R part) out size → (t c : ℕ) → c < n → t * n + c < size

@@ -12,13 +12,13 @@ use Rattle.elimination.specs.Rows.{places}
 pub row-next : (i w : ℕ) → (i + 1) * w ≡ i * w + w
 row-next i w = omega (arith, add-mul i 1 w)
 
--- the rows below d end within d * w places
-pub row-within : (i w d n : ℕ) → i < d → d * w ≡ n → i * w + w ≤ n
-row-within i w d n h e = omega (arith, row-next i w, mul-le-mul-right {m = i + 1} {n = d} w (omega arith))
-
 -- two rows of w apart
 pub apart : (i j w : ℕ) → i < j → i * w + w ≤ j * w
 apart i j w h = omega (arith, row-next i w, mul-le-mul-right {m = i + 1} {n = j} w (omega arith))
+
+-- the rows below d end within d * w places
+pub row-within : (i w d n : ℕ) → i < d → d * w ≡ n → i * w + w ≤ n
+row-within i w d n h e = omega (arith, apart i d w h)
 
 module _ (shape : Shape) where
   abbrev n : ℕ

@@ -9,12 +9,12 @@ use Rattle.ring.specs.Commutative.{CommRing, power}
 use Rattle.ring.specs.Lawful.{Lawful, Is, lifted, step-of, hold, level-of}
 use Rattle.ring.proofs.Sums as Sums
 use Rattle.ring.proofs.Lifts as Lifts
-use Rattle.recurrence.proofs.Captures.{Capture, Chain, Valued}
+use Rattle.ring.proofs.Valuations.{valuation-unique}
+use Rattle.recurrence.proofs.Captures.{Capture, Valued}
 use Rattle.recurrence.proofs.Lift as Lift
-use Rattle.recurrence.proofs.Valuations as Val
 use Rattle.elimination.specs.Rows.{Quotient}
 
-module _ {A : Type 0} (C : Capture A) (chain : Chain C) where
+module _ {A : Type 0} (C : Capture A) where
   infixl 70 _⊗_
   open Capture C using (ring as R, step)
   open CommRing R using (_⊗_, mul-assoc, mul-comm, mul-one)
@@ -49,15 +49,12 @@ module _ {E : Type 0} {R : Ring E} (L : Laws R) where
   abbrev C : Capture (Lawful L)
   C = Lift.capture L (λ _ _. R .zero) 1 0
 
-  chain : Chain C
-  chain = Lift.chain-of L (λ _ _. R .zero) 1 0 (omega arith)
-
   abbrev valued : (a u : E) (x : Lawful L) (v : ℕ) → Is L a x → Split R a v u → Valued C v x
   valued a u x v is s = Lift.valued-of L (λ _ _. R .zero) 1 0 a u x v is s
 
   -- the valuation that a split answers is the one of the laws
   pub level-is : (a u : E) (x : Lawful L) (v : ℕ) → Is L a x → (T (R .lawful a) → Split R a v u) → level-of L x ≡ v
-  level-is a u x v is s = Val.valued-once C chain (level-of L x) v x (valued (x .0) _ x (level-of L x) (record { eq = refl }) (L .splits (x .0) (x .1) .2)) (valued a u x v is (s (Lifts.ok L is)))
+  level-is a u x v is s = valuation-unique L (x .0) _ u (level-of L x) v (L .splits (x .0) (x .1) .2) (subst (λ z. Split R z v u) (is .eq) (s (Lifts.ok L is)))
 
   pub power-next : (i : ℕ) (p s r : E) → Is L p (power (lifted L) (step-of L) i) → s ≡ R .step → (T (R .lawful p) → T (R .lawful s) → r ≡ R .mul p s)
       → Is L r (power (lifted L) (step-of L) (i + 1))
@@ -79,5 +76,5 @@ module _ {E : Type 0} {R : Ring E} (L : Laws R) where
       let ic = Lifts.mul-is L ep (Lifts.mul-is L it ii em) ec in
       record {
         lawful = Lifts.ok L ic;
-        product = divided C chain w v (hold L a) (hold L b) x y h ∙ ap (lifted L ._⊗_ (hold L b)) (sym (Lifts.held L ic));
+        product = divided C w v (hold L a) (hold L b) x y h ∙ ap (lifted L ._⊗_ (hold L b)) (sym (Lifts.held L ic));
       }

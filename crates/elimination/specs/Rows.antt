@@ -60,7 +60,7 @@ module _ {E : Type 0} {R : Ring E} (L : Laws R) (shape : Shape) (ws : List E) wh
     pub room : shape .capacity * shape .channels ≤ length ws
     pub lawful : Lawful-words R (shape .channels) (shape .count .words) (words R shape ws)
 
-  -- a polynomial of degree at most m, in memory for one of each degree up to the number of words
+  -- a polynomial of degree at most m, in memory with room for degrees up to the number of words
   pub record Row (m : ℕ) (row : List E) : Type 0 where
     pub lawful : AllLawful L row
     pub long : length row ≡ shape .count .words + 1

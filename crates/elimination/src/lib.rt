@@ -206,7 +206,7 @@ pub fn eliminate<K: Kind>(
     }
 }
 
-// Keeps the polynomial in row, of this degree and zero before the place q, for q, if its value there divides that of what is kept and more.
+// Keeps the polynomial in row, of this degree and zero before the place q, for q, if its value there has a smaller valuation than what is kept has.
 pub fn keep<K: Kind>(
     kind: &K,
     shape: Shape,

@@ -5,7 +5,8 @@ use native.Mathlib.Omega.{arith}
 use lib.ListN.{length}
 use Rattle.std.proofs.shelf.Results.{err-from-errBy}
 use Rattle.remainder.proofs.Forms.{row-fits}
-use Rattle.continuation.proofs.Judged.{room-held, ready, refuses-running-on, passes-running-on, filled-run}
+use Rattle.memory.proofs.Held.{room-held}
+use Rattle.continuation.proofs.Judged.{ready, refuses-running-on, passes-running-on, filled-run}
 use Rattle.continuation.proofs.run_on.Needs as need
 
 pub all-lawful-lawful-requires : need.all-lawful-lawful-requires
