@@ -1,4 +1,7 @@
 // One job at the bench, from beginning to end, as a technician would read it.
+mod job;
+
+use job::Sheet;
 use bits::Bits;
 use bits::BitsKind;
 use cancelling::cancelling_sum;
@@ -12,12 +15,16 @@ use ring::Kind;
 use ring::Refusal;
 use ring::is_unit;
 use std::io;
+use truncated::Polynomial;
+use truncated::Truncated;
+use truncated::TruncatedKind;
 use vectors::BitsWritten;
 use vectors::ResidueWritten;
+use vectors::TruncatedWritten;
 use vectors::Written;
 
 // A list of elements on one line.
-fn show<K: Written, R: Print>(rt: &R, label: &str, xs: &[K::Elem]) -> io::Result<()> {
+pub fn show<K: Written, R: Print>(rt: &R, label: &str, xs: &[K::Elem]) -> io::Result<()> {
     rt.print(label)?;
     for x in xs.iter().copied() {
         rt.print(" ")?;
@@ -26,7 +33,7 @@ fn show<K: Written, R: Print>(rt: &R, label: &str, xs: &[K::Elem]) -> io::Result
     rt.println("")
 }
 
-fn refused<R: Print>(rt: &R, refusal: Refusal) -> io::Result<()> {
+pub fn refused<R: Print>(rt: &R, refusal: Refusal) -> io::Result<()> {
     println!(rt, "  refused: number {}", refusal.number())
 }
 
@@ -96,6 +103,40 @@ fn planes<R: Print>(rt: &R) -> io::Result<()> {
     }
 }
 
+// c + b x
+fn linear(c: u8, b: u8) -> Polynomial {
+    Polynomial { coefficients: [c, b, 0, 0, 0, 0, 0, 0] }
+}
+
+fn polynomials<R: Print>(rt: &R) -> io::Result<()> {
+    rt.println("Board 3: polynomials in x modulo 3, cut at x^2")?;
+    let words = [linear(1, 0), linear(1, 1), linear(1, 0), linear(1, 1)];
+    match Truncated::new(3, 2) {
+        Ok(kind) => {
+            board(rt, &kind, &words, &mut [linear(1, 1), linear(0, 2), linear(2, 0)])?;
+            rt.println("Its register, from the data sheet to the words that come next")?;
+            register(rt, kind)
+        }
+        Err(refusal) => refused(rt, refusal),
+    }
+}
+
+// The board's register is built, captured and found.
+fn register<R: Print>(rt: &R, kind: Truncated) -> io::Result<()> {
+    let sheet = Sheet {
+        taps: &[linear(2, 2), linear(0, 1), linear(1, 0)],
+        other: &[linear(2, 0), linear(1, 0)],
+        word: &[linear(2, 2)],
+        foreign: &[linear(3, 0)],
+    };
+    let mut stages = [linear(1, 0), linear(1, 1)];
+    let mut words = [linear(0, 0); 8];
+    let mut finding = [linear(0, 0); 32];
+    let mut work = [linear(0, 0); 256];
+    let mut buffer = [linear(0, 0); 4];
+    job::follow(rt, kind, sheet, &mut stages, &mut words, &mut finding, &mut work, &mut buffer)
+}
+
 fn mistake<R: Print>(rt: &R) -> io::Result<()> {
     rt.println("A mistake: numbers modulo 4^2, but 4 is no prime")?;
     match Residue::new(4, 2) {
@@ -107,5 +148,6 @@ fn mistake<R: Print>(rt: &R) -> io::Result<()> {
 fn main(rt: LibcRuntime) -> io::Result<()> {
     numbers(&rt)?;
     planes(&rt)?;
+    polynomials(&rt)?;
     mistake(&rt)
 }
