@@ -1,12 +1,13 @@
 // One job at the bench, from beginning to end, as a technician would read it.
 mod job;
+mod patterns;
 
-use job::Sheet;
 use bits::Bits;
 use bits::BitsKind;
 use cancelling::cancelling_sum;
 use cancelling::cancels;
 use cancelling::normalize;
+use job::Sheet;
 use recurrence::Count;
 use recurrence::Shape;
 use residue::Residue;
@@ -95,6 +96,15 @@ fn numbers<R: Print>(rt: &R) -> io::Result<()> {
     }
 }
 
+// Board 1's register, every second word of it, and it summed with another that is scaled.
+fn generators<R: Print>(rt: &R) -> io::Result<()> {
+    rt.println("Its pattern generator, built from the taps, and what can be built on it")?;
+    match Residue::new(3, 2) {
+        Ok(kind) => patterns::build(rt, kind, &[2, 1, 1], &mut [1, 2], &mut [0, 1], 5, &mut [0; 6]),
+        Err(refusal) => refused(rt, refusal),
+    }
+}
+
 fn planes<R: Print>(rt: &R) -> io::Result<()> {
     rt.println("Board 2: four bit planes, each feeding the next")?;
     match Bits::new(2, 4) {
@@ -147,6 +157,7 @@ fn mistake<R: Print>(rt: &R) -> io::Result<()> {
 
 fn main(rt: LibcRuntime) -> io::Result<()> {
     numbers(&rt)?;
+    generators(&rt)?;
     planes(&rt)?;
     polynomials(&rt)?;
     mistake(&rt)
