@@ -4,7 +4,8 @@
 
 Each line of stdin is one list of calls on a capture, all in one line. It begins with the kind's letter, base and depth, the
 channels, and the sizes of the memories that the program sets up: words, finding, work and numbers. Every element of these is
-one at first, every number 9. Then the calls, each with the sizes that it hands in (the first so many places):
+one at first, every number 9; finding and work memory are set to one again before each find. Then the calls, each with the
+sizes that it hands in (the first so many places):
   feed S k a..         a word of k elements
   draw S m GENERATOR   m words of a source (as in sources.py)
   back m               take back
@@ -18,7 +19,7 @@ one at first, every number 9. Then the calls, each with the sizes that it hands 
   words p a            the test puts an element at place p of the words memory
   finding p a          .. of the finding memory
   level i L f          .. the record's level i is L, found if f is 1
-Each call answers one line: ok or refused and the number; the count; and a digest of every memory that is determined. Where a
+Each call answers one line: ok or refused and the number, and a digest of every memory that is determined. Where a
 finding's lower coefficients decide (run on from an unsettled finding, running back), the call's word ends in `-any`, and
 only what is determined is printed; `try-whole` prints the remainder too.
 A digest is d × 31 + c modulo 2^32 over all the numbers c.
@@ -59,6 +60,7 @@ class Capture:
         self.capacity = min(MOST, words // channels) if 1 <= channels <= 4 else 0
         self.count = 0
         self.own = False  # the finding is this capture's own
+        self.unknown = set()  # the places of the finding memory whose coefficients are not determined
 
     def held(self):
         n = self.channels
@@ -74,7 +76,7 @@ class Capture:
         return self.ring.depth * (self.count + 1)
 
     def outcome(self, number):
-        return (f"refused {number}" if number else "ok") + f" count {self.count}"
+        return f"refused {number}" if number else "ok"
 
     def memory(self):
         return f" words {digest(self.ring, self.words)}"
@@ -120,6 +122,8 @@ class Capture:
         return self.outcome(number)
 
     def find(self, words, finding, work):
+        self.finding = [self.ring.one] * len(self.finding)
+        self.unknown = set()
         number = 0
         if self.short(words) or finding < self.size() or work < work_size(self.count, self.channels, self.ring.depth):
             number = SHORT
@@ -133,10 +137,21 @@ class Capture:
         for i, (length, row) in enumerate(found):
             self.finding[i * width:(i + 1) * width] = row + [self.ring.zero] * (width - len(row))
             kept += self.finding[i * width + length:(i + 1) * width]
+            self.unknown.update(range(i * width, i * width + length))
+            self.unknown.difference_update(range(i * width + length, (i + 1) * width))
         kept += self.finding[self.size():]
         self.record = [(length, True) for length, _ in found] + [(0, False)] * (31 - self.ring.depth)
         self.own = True
         return self.outcome(0) + self.memory() + f" finding {digest(self.ring, kept)} record {self.table()}"
+
+    def row_known(self):
+        """Whether the polynomial of level 0 is determined."""
+        return not self.unknown & set(range(self.record[0][0] + 1))
+
+    def put(self, place, a):
+        self.finding[place] = a
+        self.unknown.discard(place)
+        self.own = False
 
     def table(self):
         return digest(self.ring, [n for length, found in self.record for n in (length, int(found))])
@@ -191,7 +206,7 @@ class Capture:
             number = SPAN
         if number:
             return "try-whole", f"refused {number} polynomial {digest(ring, polynomial)}"
-        if ring.depth == 1:  # the unit part of an element is itself, so all is determined
+        if ring.depth == 1 and (self.own or self.row_known()):  # the unit part of an element is itself, so all is determined
             rest = reduced(ring, self.rows(), polynomial)
             return "try-whole", f"left {len(rest)} polynomial {digest(ring, rest + [ring.zero] * (len(polynomial) - len(rest)))}"
         if not self.own:
@@ -205,7 +220,7 @@ class Capture:
         number = CHANNELS if size % n else self.judged(finding, words=words)
         if number:
             return "run", f"refused {number} buffer {digest(ring, [ring.one] * size)}"
-        if self.own and 2 * self.record[0][0] > self.count:
+        if not self.row_known() and not (self.own and 2 * self.record[0][0] <= self.count):
             return "run-any", "ok"
         held = self.held()
         for _ in range(size // n):
@@ -251,7 +266,7 @@ class List:
         self.found = False
         if 1 <= channels <= 4:
             self.capture = Capture(ring, channels, words, finding, work, numbers)
-            self.lines.append(f"open capacity {self.capture.capacity}")
+            self.lines.append("open")
         else:
             self.capture = None
             self.lines.append(f"refused {CHANNELS}")
@@ -327,18 +342,22 @@ class List:
         capture.words[place] = self.element(2)
         self.call("words", [place, self.ring.show(capture.words[place])], "put")
 
+    def put_finding(self, place, a):
+        self.capture.put(place, a)
+        self.call("finding", [place, self.ring.show(a)], "put")
+
     def step_found(self, rng, ring, capture):
         pick = rng.randrange(20)
         if pick < 3:
             self.found = False
-            self.call("reopen", [], f"ok count {capture.count}")
+            self.call("reopen", [], "ok")
         elif pick < 5:
             size = self.finding_size()
             self.call("settled", [size], capture.settled(size))
         elif pick < 6:
             size = self.finding_size()
             line = capture.runs_back(size)
-            if capture.own and not line.startswith("refused"):
+            if 0 in capture.unknown and not line.startswith("refused"):
                 self.call("runs-back-any", [size], "ok")
             else:
                 self.call("runs-back", [size], line)
@@ -354,9 +373,15 @@ class List:
             self.call(word, sizes, line)
         elif pick < 18 and self.sizes[1]:
             place = rng.randrange(min(self.sizes[1], capture.size() + 2))
-            capture.finding[place] = self.element(3)
-            capture.own = False
-            self.call("finding", [place, ring.show(capture.finding[place])], "put")
+            self.put_finding(place, self.element(3))
+        elif pick < 19 and rng.randrange(2) and capture.size() <= self.sizes[1]:
+            # a polynomial of the test's own at level 0
+            length = rng.randrange(min(capture.count, 4) + 1)
+            for place in range(length):
+                self.put_finding(place, ring.random(rng))
+            self.put_finding(length, ring.one)
+            capture.record[0] = (length, True)
+            self.call("level", [0, length, 1], "put")
         elif pick < 19:
             level = rng.randrange(min(31, ring.depth + 1))
             length = rng.choice([0, capture.count, capture.count + 1, rng.randrange(capture.count + 1)])
@@ -365,9 +390,7 @@ class List:
             capture.own = False
             self.call("level", [level, length, int(found)], "put")
             if level < ring.depth and length <= capture.count and (level * (capture.count + 1) + length) < self.sizes[1]:
-                place = level * (capture.count + 1) + length
-                capture.finding[place] = ring.step_power(level)
-                self.call("finding", [place, ring.show(capture.finding[place])], "put")
+                self.put_finding(level * (capture.count + 1) + length, ring.step_power(level))
         elif capture.words:
             # words that are put by the test may no longer be those of the finding
             if rng.randrange(2) and capture.own:

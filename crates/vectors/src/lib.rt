@@ -81,7 +81,11 @@ pub fn filled<E: Copy>(heap: Global, a: E, many: usize) -> Result<Vec<E>, AllocE
 }
 
 // So many elements, if the line has them.
-pub fn elements<K: Written>(heap: Global, fields: &mut Fields<'_>, many: usize) -> Result<Option<Vec<K::Elem>>, AllocError>
+pub fn elements<K: Written>(
+    heap: Global,
+    fields: &mut Fields<'_>,
+    many: usize,
+) -> Result<Option<Vec<K::Elem>>, AllocError>
     ensures { λ r. ⌜ made r (λ o. BySome o (Unit {0}) (λ v. vec-len v ≡ many)) ⌝ }
 {
     let mut all = Vec::new(heap);

@@ -18,5 +18,5 @@ returns c =
     let decides = matches-decides _ _ _ (c .eq .ensures) in
     record {
       yes = λ t. let P : _ → Polynomial = λ x. record { coefficients = x } in ap P (decides .0 (told _ t));
-      only = λ e. tells _ (decides .1 (ap (λ x. x .coefficients) e))
+      only = λ e. tells _ (decides .1 (ap (λ x. x .coefficients) e));
     }
