@@ -1,5 +1,5 @@
 -- One test of an entry, and that the definitions yield the entry if it passes.
-use mathlib.Core.Path.{_≡_, refl, sym, ap, subst, _∙_}
+use mathlib.Core.Path.{_≡_, sym, ap, subst, _∙_}
 use mathlib.Core.Logic.{_↔_}
 use mathlib.Core.Bool.{Bool, true, false, not, _&&_, _||_, cond}
 use mathlib.Core.List.{List, [], _∷_}
@@ -15,7 +15,7 @@ use Rattle.inverses.proofs.Bases.{both-left, both-right, either}
 use Rattle.inverses.proofs.Rule.{each-below, below-at}
 use Rattle.recurrence.specs.declared.shape.Level.{Level}
 use Rattle.recurrence.specs.Memory.{at}
-use Rattle.recurrence.specs.Polynomials.{Lawful, Zero, Within, Degree, Leads, value, Obeys}
+use Rattle.recurrence.specs.Polynomials.{Lawful, Zero, Within, Degree, value, Obeys}
 use Rattle.recurrence.specs.Words.{Lawful-words, Cancels, Least, Length}
 use Rattle.recurrence.specs.Findings.{blank, long, Settled, extent, row, Formed, run-of}
 use Rattle.recurrence.specs.Reductions.{Step, Rest, done, more, Coefficients}
@@ -84,6 +84,7 @@ module _ {E : Type 0} {R : Ring E} (F : Finite R) where
     fails-at m zero p lp ps t = t
     fails-at m (suc j) p lp ps t = fails-at m j p lp (p j ∷ ps) (F .complete (λ a. fails m j (a ∷ ps)) t (p j) (lp j))
 
+    -- what cancels passes the test, by its coefficients up to its degree
     cancels-from : (m : ℕ) (p q : ℕ → E) → Degree R m p → Cancels R n e S p → ((j : ℕ) → j ≤ m → q j ≡ p j) → T (cancels m q)
     cancels-from m p q deg cancelled same =
         below-from (e - m) (λ k. each-below n (λ c. none (value R m q (S c) k)))
@@ -92,6 +93,7 @@ module _ {E : Type 0} {R : Ring E} (F : Finite R) where
         at-place : (k c : ℕ) → value R m q (S c) k ≡ value R m p (S c) k
         at-place k c = sum-same R (suc m) _ _ (λ j b. ap (λ z. R .mul z (S c (k + j))) (same j (omega arith)))
 
+    -- the first m coefficients of a polynomial that would cancel are among those gone through
     least-is : Laws R → (i l : ℕ) → T (least i l) → Least R n e S i l
     least-is L i l t m p lp lead cancelled = by (decLt m l)
       where

@@ -1,11 +1,11 @@
 -- The table of lengths that the code has is that of the rows.
-use mathlib.Core.Path.{_≡_, sym, ap, _∙_}
+use mathlib.Core.Path.{_≡_, sym, ap}
 use mathlib.Core.Bool.{Bool}
 use mathlib.Core.Logic.{_⊎_, inl, inr}
 use mathlib.Core.List.{List, [], _∷_}
 use Prim.Native.Nat.{ℕ, _<_, _≤_}
 use native.Mathlib.Omega.{arith}
-use lib.Dec.{T, eqb, eqb→eq, leb, leb→le}
+use lib.Dec.{eqb, eqb→eq, leb, leb→le}
 use lib.ListN.{length, getD, List·getD-eq-default}
 use Rattle.recurrence.specs.declared.shape.Level.{Level}
 use Rattle.recurrence.specs.Findings.{blank, long}

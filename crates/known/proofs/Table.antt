@@ -1,5 +1,5 @@
 -- The table passes the test of its rows, and so the definitions yield them.
-use mathlib.Core.Bool.{Bool, _&&_}
+use mathlib.Core.Bool.{Bool}
 use mathlib.Core.List.{List, [], _∷_}
 use Prim.Native.Nat.{_^_}
 use lib.Dec.{T, leb, leb→le}

@@ -204,6 +204,7 @@ two-channels = record {
   };
 }
 
+-- the table, from row 0 on
 abbrev pub table : List Row
 table = no-words ∷ ternary ∷ binary ∷ late ∷ even ∷ step-alone ∷ one-alone ∷ two-channels ∷ binary-in-words ∷ []
 
