@@ -1,4 +1,6 @@
 // The shortest polynomials of all levels that cancel the words of a capture, by the method of Berlekamp and Massey over a chain ring.
+#![tactic(auto)]
+
 ghost use Rattle.std.specs.Prelude.{◌≡◌, ℕ, suc, ◌+◌, ◌-◌, ◌*◌, ◌<◌, ◌≤◌, length};
 ghost use Rattle.levels.specs.Rounds.{ToSolve, Solved};
 ghost use Rattle.annihilator.specs.Calls.{Sought};

@@ -1,4 +1,6 @@
 // The arithmetic of the kinds over slices, exported for the benchmark that compares it with plain Rust.
+#![tactic(auto)]
+
 use bits::Bits;
 use residue::Residue;
 use ring::Kind;

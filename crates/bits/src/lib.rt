@@ -1,4 +1,6 @@
 // Kind B: polynomials in x over the field of two elements, cut at x^d, in one word with the coefficient of x^j in bit j.
+#![tactic(auto)]
+
 ghost use Rattle.std.specs.Prelude.{◌≡◌, ◌-◌, ◌^◌, ◌<◌, ◌≢◌, ◌⊎◌, [], ◌∷◌};
 ghost use Rattle.ring.specs.Refusals.{Call};
 ghost use Rattle.bits.specs.Bits.{bits};

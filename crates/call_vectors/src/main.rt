@@ -1,5 +1,7 @@
 // Reads lists of calls from standard input, one list a line, carries them out on a capture, and prints every answer and what the
 // memories hold as far as it is determined.
+#![tactic(auto)]
+
 mod digests;
 mod memories;
 mod on_found;

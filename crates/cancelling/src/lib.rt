@@ -1,4 +1,6 @@
 // Trying a polynomial on the words of a capture: the sum at one place, the verdict over all places, and the polynomial made normal.
+#![tactic(auto)]
+
 ghost use Rattle.std.specs.Prelude.{◌≡◌, ℕ, suc, ◌+◌, ◌-◌, ◌*◌, ◌<◌, ◌≤◌, T, ◌≢◌, ◌↔◌, length};
 ghost use Rattle.ring.specs.Ring.{sum};
 ghost use Rattle.recurrence.specs.Memory.{at, Unlawful, Written};

@@ -1,4 +1,6 @@
 // Captures: open and found, the calls on them, and what every list of calls promises.
+#![tactic(auto)]
+
 ghost use Rattle.std.specs.Prelude.{◌≡◌, ℕ, ◌+◌, ◌*◌, ◌<◌, ◌≤◌, length, Ok, Err, slice_index};
 ghost use Rattle.recurrence.specs.Words.{Length, words as words_of};
 ghost use Rattle.ring.specs.Refusals.{Passes};

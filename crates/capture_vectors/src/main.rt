@@ -1,4 +1,6 @@
 // Reads captures from standard input, one a line, finds the shortest polynomials of each, and prints what is determined.
+#![tactic(auto)]
+
 use annihilator::find;
 use bits::Bits;
 use continuation::run_on;

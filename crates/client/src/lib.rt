@@ -1,4 +1,6 @@
 // A user of captures, who knows their contracts alone.
+#![tactic(auto)]
+
 ghost use Rattle.client.specs.Job.{Foreseen};
 
 use capture::Open;

@@ -1,4 +1,6 @@
 // The run of a finding handed in, continued into a buffer.
+#![tactic(auto)]
+
 ghost use Rattle.std.specs.Prelude.{◌≡◌, ◌+◌, ◌-◌, ◌*◌, ◌<◌, ◌≤◌, length, if◌then◌else◌, nat_lt, slice_index_or};
 ghost use Rattle.recurrence.specs.Memory.{at};
 ghost use Rattle.recurrence.specs.Words.{place, words, run};

@@ -1,5 +1,7 @@
 // One polynomial against those that are kept: a step on the way to the shortest polynomials that cancel a capture.
 // The functions here ask what the crate above meets: no user of the library calls them.
+#![tactic(auto)]
+
 ghost use Rattle.elimination.specs.Stores.{ToEliminate, Eliminated, ToKeep, KeptOne};
 
 use places::{first_nonzero, place_count, row_start, value_at};

@@ -1,4 +1,6 @@
 // The finding of the words 2, 0, 2, 0 modulo 4, handed to every call on a finding: what is answered, and what is refused.
+#![tactic(auto)]
+
 use continuation::run_on;
 use judging::{can_be_run_back, settled};
 use recurrence::{Count, Level, Record, Shape};

@@ -1,4 +1,6 @@
 // Registers and loops as they stand in lines: for the programs that run vectors of sources.
+#![tactic(auto)]
+
 use lines::Fields;
 use ring::Kind;
 use std::alloc::{AllocError, Global};

@@ -1,4 +1,6 @@
 // The bases of the coefficient kinds, and the inverse of each of their remainders.
+#![tactic(auto)]
+
 ghost use Rattle.std.specs.Prelude.{◌≡◌, [], ◌∷◌, T};
 ghost use Rattle.ring.specs.Refusals.{Call};
 ghost use Rattle.inverses.specs.Bases.{listed, Inverse};

@@ -1,4 +1,6 @@
 // A finding handed in: whether it is in form, settled, and can be run back.
+#![tactic(auto)]
+
 ghost use Rattle.std.specs.Prelude.{◌≡◌, ◌+◌, ◌*◌, ◌<◌, ◌≤◌, T, ◌↔◌, length, take, drop};
 ghost use Rattle.ring.specs.Refusals.{Call};
 ghost use Rattle.recurrence.specs.Memory.{Unlawful};

@@ -1,4 +1,6 @@
 // Reads operations from standard input, one a line, runs each through the kind that it names, and prints the answers.
+#![tactic(auto)]
+
 use bits::Bits;
 use lines::Fields;
 use residue::Residue;

@@ -1,4 +1,6 @@
 // Captures whose findings are known beforehand. That the definitions yield them is the contract of a function that looks a length up.
+#![tactic(auto)]
+
 ghost use Rattle.std.specs.Prelude.{◌≡◌};
 ghost use Rattle.recurrence.specs.Findings.{long};
 ghost use Rattle.known.specs.Table.{levels_of, Known};

@@ -1,4 +1,6 @@
 // Each row of the table of known findings, run through the search and the calls on what it finds.
+#![tactic(auto)]
+
 use annihilator::find;
 use bits::Bits;
 use continuation::run_on;

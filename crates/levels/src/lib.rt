@@ -1,5 +1,7 @@
 // All levels at one degree: their polynomials are begun, reduced by what is kept, and kept themselves.
 // The functions here ask what the crate above meets: no user of the library calls them.
+#![tactic(auto)]
+
 ghost use Rattle.std.specs.Prelude.{◌≡◌, ℕ, suc, ◌+◌, ◌*◌, ◌<◌, length};
 ghost use Rattle.rows.specs.Rows.{Holds, constant};
 ghost use Rattle.levels.specs.Levels.{«row_of»};

@@ -1,4 +1,6 @@
 // Lines of text with fields parted by blanks: for the programs that run vectors.
+#![tactic(auto)]
+
 ghost use Rattle.std.specs.Prelude.{◌≡◌};
 ghost use Rattle.lines.specs.Lines.{Cut, Reads};
 

@@ -1,4 +1,6 @@
 // What every call does with memory that is lent to it.
+#![tactic(auto)]
+
 ghost use Rattle.std.specs.Prelude.{ℕ, ◌+◌, ◌≤◌, T, length, slice_index_or};
 ghost use Rattle.recurrence.specs.Memory.{Unlawful, Written};
 

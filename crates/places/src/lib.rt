@@ -1,5 +1,7 @@
 // The places of a capture, and the values of a polynomial there.
 // The functions here ask what the crates above meet: no user of the library calls them.
+#![tactic(auto)]
+
 ghost use Rattle.std.specs.Prelude.{◌≡◌, ℕ, ◌+◌, ◌*◌, ◌/◌, ◌%◌, ◌<◌, ◌≤◌, length, slice_index_or};
 ghost use Rattle.ring.specs.Lawful.{Is, cells};
 ghost use Rattle.recurrence.proofs.Captures.{value, Zeros};

@@ -1,5 +1,7 @@
 // Recurrences over chain rings: what a capture, a finding, a run and a reduction mean, and the theorems about them.
 // Each theorem is the contract of a function that computes nothing: to call it is to have the theorem.
+#![tactic(auto)]
+
 ghost use Rattle.recurrence.specs.Theorems.{RecurrenceSettles, RunContinues, LengthsFall, RowsShortest, RowsCancelRun, RestTells, RestExists, RunForetells, StoreStands};
 
 mod shape;

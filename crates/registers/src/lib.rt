@@ -1,4 +1,6 @@
 // Registers and loops: sources that stand on lent memory. One text serves every kind.
+#![tactic(auto)]
+
 ghost use Rattle.std.specs.Prelude.{◌≡◌, ℕ, ◌+◌, T, ◌↔◌, length, drop};
 ghost use Rattle.ring.specs.declared.Refusal.{Refusal as Reason};
 ghost use Rattle.ring.specs.Lawful.{cells as lawfully, lifted};

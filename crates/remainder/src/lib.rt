@@ -1,4 +1,6 @@
 // The reduction of a polynomial by a finding handed in.
+#![tactic(auto)]
+
 ghost use Rattle.std.specs.Prelude.{◌+◌, ◌-◌, ◌*◌, ◌<◌, ◌≤◌, T, length};
 ghost use Rattle.recurrence.specs.Polynomials.{Lawful};
 ghost use Rattle.recurrence.specs.Memory.{at, Written};

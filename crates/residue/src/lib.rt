@@ -1,4 +1,6 @@
 // The numbers modulo p^d, for a listed base p, as a kind of coefficients.
+#![tactic(auto)]
+
 ghost use Rattle.std.specs.Prelude.{◌≡◌, ◌^◌, ◌<◌, ◌≤◌, T, ◌⊎◌, [], ◌∷◌, Some, None};
 ghost use Rattle.ring.specs.Refusals.{Call};
 ghost use Rattle.inverses.specs.Bases.{listed};

@@ -1,4 +1,6 @@
 // Coefficient kinds: finite chain rings, known by their meaning and their laws; and the refusals of the whole library.
+#![tactic(auto)]
+
 ghost use Rattle.std.specs.Prelude.{◌≡◌, ℕ, ◌≤◌, T, ◌↔◌};
 ghost use Rattle.ring.specs.Ring.{Ring, Laws, Split, UnitOf};
 ghost use Rattle.ring.specs.Refusals.{number, Call, tests};

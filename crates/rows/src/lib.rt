@@ -1,5 +1,7 @@
 // Polynomials in memory: begun, multiplied by y, and taken from one another; and the quotient of two elements.
 // The functions here ask what the crates above meet: no user of the library calls them.
+#![tactic(auto)]
+
 ghost use Rattle.std.specs.Prelude.{◌≡◌, ℕ, ◌-◌, ◌<◌, T, length, MatchOption};
 ghost use Rattle.ring.specs.Commutative.{power as raise};
 ghost use Rattle.ring.specs.Lawful.{Is, cells, lifted, «step_of», hold, AllLawful};

@@ -1,4 +1,6 @@
 // A source that is no register, a plain counter, through everything that is built on sources; and registers and loops, stacked.
+#![tactic(auto)]
+
 ghost use Rattle.std.specs.Prelude.{◌≡◌, ℕ, ◌+◌, ◌*◌, ◌%◌, ◌<◌, T, length, ◌≢◌, slice_index, slice_index_or};
 ghost use Rattle.ring.specs.declared.Refusal.{Refusal as Reason};
 ghost use Rattle.ring.specs.Refusals.{Passes, Refuses};

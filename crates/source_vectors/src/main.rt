@@ -1,4 +1,6 @@
 // Reads sources from standard input, one a line, makes each, and prints what its checks answer and its first words.
+#![tactic(auto)]
+
 use bits::Bits;
 use generators::Generator;
 use lines::Fields;

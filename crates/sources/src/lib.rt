@@ -1,4 +1,6 @@
 // Sources: pattern generators, known by their kind and an endless list of elements only.
+#![tactic(auto)]
+
 ghost use Rattle.std.specs.Prelude.{◌≡◌, ℕ, ◌+◌, T, length};
 ghost use Rattle.ring.specs.Lawful.{hold as lawfully};
 ghost use Rattle.ring.specs.Refusals.{Call};

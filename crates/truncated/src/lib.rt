@@ -1,4 +1,6 @@
 // Kind T: polynomials in x over the numbers modulo a base, cut at x^d, in eight places.
+#![tactic(auto)]
+
 ghost use Rattle.std.specs.Prelude.{◌≡◌, ◌+◌, ◌-◌, ◌<◌, ◌≤◌, T, ◌⊎◌, [], ◌∷◌, slice_index};
 ghost use Rattle.ring.specs.Refusals.{Call};
 ghost use Rattle.inverses.specs.Bases.{listed};

@@ -1,4 +1,6 @@
 // How the elements of each kind stand in a line of numbers: for the programs that run vectors.
+#![tactic(auto)]
+
 ghost use Rattle.std.specs.Prelude.{◌≡◌, T, IfSome, IfOk, vec_len};
 
 use bits::Bits;

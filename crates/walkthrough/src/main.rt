@@ -1,4 +1,6 @@
 // One job at the bench, from beginning to end, as a technician would read it.
+#![tactic(auto)]
+
 mod job;
 mod patterns;
 
