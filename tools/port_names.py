@@ -19,9 +19,12 @@ GIVEN = {
     "wordsOf": "words_of",
     "W-is": "whole_is",
     "bit-xor": "bit_xor_is",
+    "zero-Lawful": "zero_lawful",
 }
 # Declared here under the library's own spelling.
 KEPT = {"get_or-append_right", "get_or-eq_default", "get_or-set_other", "get_or-set_same"}
+# A string, or a word, in code.
+CODE = re.compile(r'"(?:[^"\\]|\\.)*"|' + WORD)
 FOREIGN = re.compile(r"^\s*(?:ghost )?(?:pub )?use (?:Rattle\.std|Rattle\.core|mathlib|native|lib|Prim)\b[^{]*\{([^}]*)\}")
 
 
@@ -89,6 +92,9 @@ def main():
     own = set(GIVEN)
     for p, t in texts.items():
         own |= declared(p, t)
+    for p in glob.glob("crates/*/src/**/*.rt", recursive=True):
+        for line in re.findall(r"^ghost use .*$", open(p).read(), re.M):
+            own |= {n for n in re.findall(r" as (" + WORD + ")", line) if odd(n)}
     for p, t in texts.items():
         theirs = foreign(t)
         new = "\n".join(respelled(line, own, theirs) for line in t.split("\n"))
@@ -97,8 +103,7 @@ def main():
     for p in glob.glob("crates/*/src/**/*.rt", recursive=True) + glob.glob("crates/*/must-fail/*.edit"):
         t = open(p).read()
         new = re.sub(r"«([^»]*)»", lambda m: turned(m[1]) if m[1] in own else m[0], t)
-        for name in ("kindOf", "wordsOf"):
-            new = re.sub(r"\b" + name + r"\b", GIVEN[name], new)
+        new = "\n".join(line if line.lstrip().startswith("//") else re.sub(CODE, lambda m: turned(m[0]) if m[0] in own else m[0], line) for line in new.split("\n"))
         if new != t:
             open(p, "w").write(new)
     for p in ["README.md"] + glob.glob("docs/*.md"):

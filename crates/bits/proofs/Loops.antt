@@ -50,7 +50,7 @@ module _ (d : ℕ) (low : 1 ≤ d) (high : d ≤ 31) where
 
   pub multiplied_start : (a b : ℕ) → T (ltb a (2 ^ d)) → T (ltb b (2 ^ d)) → Multiplied a b 0 a b 0
   multiplied_start a b ha hb = record {
-    sum_fits = fits (zero_is d) L.zero-Lawful;
+    sum_fits = fits (zero_is d) L.zero_lawful;
     x_fits = ha;
     y_fits = hb;
     y_is = sym (ap (λ (n : ℕ). b / n) (pow-zero 2) ∙ div-one b);
@@ -109,7 +109,7 @@ module _ (d : ℕ) (low : 1 ≤ d) (high : d ≤ 31) where
   divided_start u hu =
       let one = L.one_lawful in
       record {
-        w_fits = fits (zero_is d) L.zero-Lawful;
+        w_fits = fits (zero_is d) L.zero_lawful;
         r_fits = fits (one_is d low) one;
         eq = ap₂ (λ (p q : ℕ). (bits d).add ((bits d).mul u p) ((bits d).mul (bits d).one q)) (zero_is d) (one_is d low)
             ∙ ap₂ (bits d).add (ap (λ z. z.0) (Sums.mul_zero ring (u, hu))) (L.mul_one (bits d).one one)

@@ -4,7 +4,7 @@
 ghost use Rattle.std.specs.Prelude.{◌≡◌, ◌-◌, ◌^◌, ◌<◌, ◌≢◌, ◌⊎◌, [], ◌∷◌};
 ghost use Rattle.ring.specs.Refusals.{Call};
 ghost use Rattle.bits.specs.Bits.{bits};
-ghost use Rattle.bits.specs.Laws.{bits-laws};
+ghost use Rattle.bits.specs.Laws.{bits_laws};
 
 mod kind;
 
@@ -38,7 +38,7 @@ impl Kind for Bits {
 
     ghost ring = { λ k. bits k.depth };
 
-    ghost laws = { λ k. bits-laws k.depth k.ok.0 k.ok.1 };
+    ghost laws = { λ k. bits_laws k.depth k.ok.0 k.ok.1 };
 
     fn zero(&self) -> u32 {
         0

@@ -30,7 +30,7 @@ module _ {E : Type 0} {R : Ring E} (L : Laws R) where
   pub sub_zero : (x : E) → T (R.lawful x) → R.sub x R.zero ≡ x
   sub_zero x h =
       let K = L.ring_laws in
-      sym (K.add_zero _ (K.sub_lawful x R.zero h K.zero-Lawful)) ∙ K.sub_add x R.zero h K.zero-Lawful
+      sym (K.add_zero _ (K.sub_lawful x R.zero h K.zero_lawful)) ∙ K.sub_add x R.zero h K.zero_lawful
 
   pub mul_zero : (x : E) → T (R.lawful x) → R.mul x R.zero ≡ R.zero
   mul_zero x h =
@@ -39,7 +39,7 @@ module _ {E : Type 0} {R : Ring E} (L : Laws R) where
   sub_zero_eq : (a b : E) → T (R.lawful a) → T (R.lawful b) → R.sub a b ≡ R.zero → a ≡ b
   sub_zero_eq a b ha hb e =
       let K = L.ring_laws in
-      sym (K.sub_add a b ha hb) ∙ ap (λ z. R.add z b) e ∙ K.add_comm R.zero b K.zero-Lawful hb ∙ K.add_zero b hb
+      sym (K.sub_add a b ha hb) ∙ ap (λ z. R.add z b) e ∙ K.add_comm R.zero b K.zero_lawful hb ∙ K.add_zero b hb
 
   -- two elements are one exactly if their difference x is zero
   pub equal_is : (a b x : E) (told : Bool) → (T (R.lawful a) → T (R.lawful b) → x ≡ R.sub a b) → (T (R.lawful x) → T told ↔ (x ≡ R.zero))

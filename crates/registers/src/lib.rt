@@ -6,7 +6,7 @@ ghost use Rattle.ring.specs.declared.Refusal.{Refusal as Reason};
 ghost use Rattle.ring.specs.Lawful.{cells as lawfully, lifted};
 ghost use Rattle.ring.specs.Refusals.{Call, Passes, Refuses};
 ghost use Rattle.sources.specs.Window.{window};
-ghost use Rattle.registers.specs.Registers.{degree, register-rows, loop-rows, Registers, Repeats, dot as products, continued, repeated};
+ghost use Rattle.registers.specs.Registers.{degree, register_rows, loop_rows, Registers, Repeats, dot as products, continued, repeated};
 
 use memory::all_lawful;
 use ring::{Kind, Refusal, is_zero};
@@ -42,7 +42,7 @@ pub fn check_register<K: Kind>(
     coefficients: &[K::Elem],
     stages: &[K::Elem],
 ) -> Result<(), Refusal>
-    ensures { Call (register-rows (K.Kind.ring kind.now) coefficients.now stages.now) result (λ _. Unit {0}) (Unit {0}) }
+    ensures { Call (register_rows (K.Kind.ring kind.now) coefficients.now stages.now) result (λ _. Unit {0}) (Unit {0}) }
 {
     let count = coefficients.len();
     let degree = count.saturating_sub(1);
@@ -66,8 +66,8 @@ pub fn check_register<K: Kind>(
 
 // How many stages the register of these has: none where it is refused.
 fn stages_of<K: Kind>(kind: &K, coefficients: &[K::Elem], stages: &[K::Elem]) -> usize
-    ensures accepted { Passes (register-rows (K.Kind.ring kind.now) coefficients.now stages.now) → result ≡ degree coefficients.now }
-    ensures refused { (e : Reason) → Refuses (register-rows (K.Kind.ring kind.now) coefficients.now stages.now) e → result ≡ 0 }
+    ensures accepted { Passes (register_rows (K.Kind.ring kind.now) coefficients.now stages.now) → result ≡ degree coefficients.now }
+    ensures refused { (e : Reason) → Refuses (register_rows (K.Kind.ring kind.now) coefficients.now stages.now) e → result ≡ 0 }
 {
     match check_register(kind, coefficients, stages) {
         Ok(()) => coefficients.len().saturating_sub(1),
@@ -118,8 +118,8 @@ impl<'t, 'c, K: Kind> Register<'t, 'c, K> {
         ensures kind { result.kind ≡ kind }
         ensures list { Registers (K.Kind.ring kind) coefficients.now stages.old
             (continued (K.Kind.laws result.kind) result.coefficients.now (window result.line.cells.now result.line.len result.line.at)) }
-        ensures stages { Passes (register-rows (K.Kind.ring kind) coefficients.now stages.old) → result.line.len ≡ degree coefficients.now }
-        ensures none { (e : Reason) → Refuses (register-rows (K.Kind.ring kind) coefficients.now stages.old) e → result.line.len ≡ 0 }
+        ensures stages { Passes (register_rows (K.Kind.ring kind) coefficients.now stages.old) → result.line.len ≡ degree coefficients.now }
+        ensures none { (e : Reason) → Refuses (register_rows (K.Kind.ring kind) coefficients.now stages.old) e → result.line.len ≡ 0 }
         ensures cells { result.line.cells.now ≡ stages.old }
         ensures lent { result.line.cells.ghost_name ≡ stages.entry.ghost_name }
     {
@@ -161,7 +161,7 @@ impl<K: Kind> Source<K> for Register<'_, '_, K> {
 
 // Whether a loop may be made of these elements. Foreign: one that is not lawful. Span: none.
 pub fn check_loop<K: Kind>(kind: &K, elements: &[K::Elem]) -> Result<(), Refusal>
-    ensures { Call (loop-rows (K.Kind.ring kind.now) elements.now) result (λ _. Unit {0}) (Unit {0}) }
+    ensures { Call (loop_rows (K.Kind.ring kind.now) elements.now) result (λ _. Unit {0}) (Unit {0}) }
 {
     if !all_lawful(kind, elements, elements.len()) {
         return Err(Refusal::Foreign);
@@ -174,8 +174,8 @@ pub fn check_loop<K: Kind>(kind: &K, elements: &[K::Elem]) -> Result<(), Refusal
 
 // How many elements the loop of these has: none where it is refused.
 fn loop_of<K: Kind>(kind: &K, elements: &[K::Elem]) -> usize
-    ensures accepted { Passes (loop-rows (K.Kind.ring kind.now) elements.now) → result ≡ length elements.now }
-    ensures refused { (e : Reason) → Refuses (loop-rows (K.Kind.ring kind.now) elements.now) e → result ≡ 0 }
+    ensures accepted { Passes (loop_rows (K.Kind.ring kind.now) elements.now) → result ≡ length elements.now }
+    ensures refused { (e : Reason) → Refuses (loop_rows (K.Kind.ring kind.now) elements.now) e → result ≡ 0 }
 {
     match check_loop(kind, elements) {
         Ok(()) => elements.len(),

@@ -5,7 +5,7 @@ ghost use Rattle.std.specs.Prelude.{◌≡◌, ◌^◌, ◌<◌, ◌≤◌, T, �
 ghost use Rattle.ring.specs.Refusals.{Call};
 ghost use Rattle.inverses.specs.Bases.{listed};
 ghost use Rattle.residue.specs.Modulo.{modulo, Parts};
-ghost use Rattle.residue.specs.Laws.{laws as modulo-laws};
+ghost use Rattle.residue.specs.Laws.{laws as modulo_laws};
 
 mod modulus;
 
@@ -79,7 +79,7 @@ impl Kind for Residue {
 
     ghost ring = { λ k. modulo k.base.value k.depth };
 
-    ghost laws = { λ k. modulo-laws k.base.value k.depth k.base.ok.0 k.ok.0 k.ok.1 };
+    ghost laws = { λ k. modulo_laws k.base.value k.depth k.base.ok.0 k.ok.0 k.ok.1 };
 
     fn zero(&self) -> u32 {
         0

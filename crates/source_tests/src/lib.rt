@@ -5,8 +5,8 @@ ghost use Rattle.std.specs.Prelude.{◌≡◌, ℕ, ◌+◌, ◌*◌, ◌%◌, �
 ghost use Rattle.ring.specs.declared.Refusal.{Refusal as Reason};
 ghost use Rattle.ring.specs.Refusals.{Passes, Refuses};
 ghost use Rattle.recurrence.specs.Memory.{at};
-ghost use Rattle.sources.specs.Makers.{stride-rows};
-ghost use Rattle.registers.specs.Registers.{loop-rows, Registers};
+ghost use Rattle.sources.specs.Makers.{stride_rows};
+ghost use Rattle.registers.specs.Registers.{loop_rows, Registers};
 ghost use Rattle.source_tests.specs.Numbers.{ring};
 
 use registers::{Loop, Register};
@@ -40,8 +40,8 @@ impl Source<Residue> for Counter {
 
 // Fills the buffer with every m-th number that the counter counts; with zeros for an m that is refused.
 pub fn count_by(counter: Counter, m: usize, out: &mut [u32])
-    ensures counted { Passes (stride-rows m) → (i : ℕ) → i < length out.old → slice_index out.new i ≡ (counter.count + m * i) % counter.kind.size }
-    ensures refused { (e : Reason) → Refuses (stride-rows m) e → (i : ℕ) → i < length out.old → slice_index out.new i ≡ 0 }
+    ensures counted { Passes (stride_rows m) → (i : ℕ) → i < length out.old → slice_index out.new i ≡ (counter.count + m * i) % counter.kind.size }
+    ensures refused { (e : Reason) → Refuses (stride_rows m) e → (i : ℕ) → i < length out.old → slice_index out.new i ≡ 0 }
 {
     let len = out.len();
     let mut source = Stride::new(counter, m);
@@ -69,7 +69,7 @@ pub fn stacked<K: Kind>(
     out: &mut [K::Elem],
 )
     ensures { (w : ℕ → K.Elem) × Registers (K.Kind.ring kind) coefficients.now stages.old w
-        × (T ((K.Kind.ring kind).lawful c) → Passes (loop-rows (K.Kind.ring kind) elements.now) → (i : ℕ) → i < length out.old → (d : K.Elem)
+        × (T ((K.Kind.ring kind).lawful c) → Passes (loop_rows (K.Kind.ring kind) elements.now) → (i : ℕ) → i < length out.old → (d : K.Elem)
         → slice_index_or out.new i d ≡ (K.Kind.ring kind).add ((K.Kind.ring kind).mul c (w i)) (at (K.Kind.ring kind) elements.now ((2 * i) % length elements.now))) }
 {
     let len = out.len();

@@ -2,7 +2,7 @@
 ghost use Rattle.std.specs.Prelude.{◌≡◌, ℕ, ◌+◌, ◌*◌, T};
 ghost use Rattle.ring.specs.Refusals.{Call};
 ghost use Rattle.recurrence.specs.Polynomials.{Obeys};
-ghost use Rattle.sources.specs.Makers.{Makes, stride-rows, sum_rows, scaling-rows, strided, summed, scaled};
+ghost use Rattle.sources.specs.Makers.{Makes, stride_rows, sum_rows, scaling_rows, strided, summed, scaled};
 
 use crate::{Source, hold, skip};
 use ring::{Kind, Refusal};
@@ -12,7 +12,7 @@ pub const LONGEST: usize = 65_536;
 
 // Whether a stride by m may be made: span unless m is 1 to 65,536.
 pub fn check_stride(m: usize) -> Result<(), Refusal>
-    ensures { Call (stride-rows m) result (λ _. Unit {0}) (Unit {0}) }
+    ensures { Call (stride_rows m) result (λ _. Unit {0}) (Unit {0}) }
 {
     if m == 0 || m > LONGEST {
         Err(Refusal::Span)
@@ -34,7 +34,7 @@ impl<S> Stride<S> {
     where
         S: Source<K>,
         ensures inner { result.inner ≡ inner }
-        ensures list { Makes (stride-rows m) (K.Kind.ring (kind_of inner)) (λ t. list inner (m * t)) (strided (K.Kind.ring (kind_of result.inner)) result.step (list result.inner)) }
+        ensures list { Makes (stride_rows m) (K.Kind.ring (kind_of inner)) (λ t. list inner (m * t)) (strided (K.Kind.ring (kind_of result.inner)) result.step (list result.inner)) }
         ensures obeys { (D : ℕ) (q : ℕ → K.Elem) → m ≡ 1 → Obeys (K.Kind.ring (kind_of inner)) D q (list inner) → Obeys (K.Kind.ring (kind_of inner)) D q (strided (K.Kind.ring (kind_of result.inner)) result.step (list result.inner)) }
     {
         let step = if check_stride(m).is_ok() { m } else { 0 };
@@ -145,7 +145,7 @@ impl<K: Kind, A: Source<K>, B: Source<K>> Source<K> for Sum<A, B> {
 
 // Whether a source may be scaled by c: foreign unless c is lawful in its kind.
 pub fn check_scaling<K: Kind, S: Source<K>>(source: &S, c: K::Elem) -> Result<(), Refusal>
-    ensures { Call (scaling-rows (K.Kind.ring (kind_of source.now)) c) result (λ _. Unit {0}) (Unit {0}) }
+    ensures { Call (scaling_rows (K.Kind.ring (kind_of source.now)) c) result (λ _. Unit {0}) (Unit {0}) }
 {
     if source.kind().is_lawful(c) {
         Ok(())
@@ -167,7 +167,7 @@ impl<S, E> Scaling<S, E> {
     where
         S: Source<K>,
         ensures inner { result.inner ≡ inner }
-        ensures list { Makes (scaling-rows (K.Kind.ring (kind_of inner)) c) (K.Kind.ring (kind_of inner)) (λ t. (K.Kind.ring (kind_of inner)).mul c (list inner t))
+        ensures list { Makes (scaling_rows (K.Kind.ring (kind_of inner)) c) (K.Kind.ring (kind_of inner)) (λ t. (K.Kind.ring (kind_of inner)).mul c (list inner t))
             (scaled (K.Kind.laws (kind_of result.inner)) result.by (list result.inner)) }
         ensures obeys { (D : ℕ) (q : ℕ → E) → Obeys (K.Kind.ring (kind_of inner)) D q (list inner) → Obeys (K.Kind.ring (kind_of inner)) D q (scaled (K.Kind.laws (kind_of result.inner)) result.by (list result.inner)) }
     {

@@ -4,7 +4,7 @@
 ghost use Rattle.std.specs.Prelude.{◌≡◌, ℕ, ◌+◌, T, length};
 ghost use Rattle.ring.specs.Lawful.{hold as lawfully};
 ghost use Rattle.ring.specs.Refusals.{Call};
-ghost use Rattle.sources.specs.Makers.{draw-rows};
+ghost use Rattle.sources.specs.Makers.{draw_rows};
 ghost use Rattle.recurrence.specs.Memory.{Written};
 
 use ring::{Kind, Refusal};
@@ -71,7 +71,7 @@ pub fn draw<K: Kind, S: Source<K>>(
     from: usize,
     m: usize,
 ) -> Result<(), Refusal>
-    ensures { Call (draw-rows (length out.old) from m) result
+    ensures { Call (draw_rows (length out.old) from m) result
         (λ _. Written out.old out.new from m (list source.old)
         × ((t : ℕ) → list source.new t ≡ list source.old (m + t))
         × (kind_of source.new ≡ kind_of source.old))

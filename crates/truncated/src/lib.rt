@@ -5,8 +5,8 @@ ghost use Rattle.std.specs.Prelude.{◌≡◌, ◌+◌, ◌-◌, ◌<◌, ◌≤
 ghost use Rattle.ring.specs.Refusals.{Call};
 ghost use Rattle.inverses.specs.Bases.{listed};
 ghost use Rattle.truncated.specs.Polynomials.{eight, polynomials};
-ghost use Rattle.truncated.specs.Laws.{polynomials-laws};
-ghost use Rattle.truncated.specs.Operations.{Leading, Filled, x-to, plus-scaled, product-of};
+ghost use Rattle.truncated.specs.Laws.{polynomials_laws};
+ghost use Rattle.truncated.specs.Operations.{Leading, Filled, x_to, plus_scaled, product_of};
 
 mod kind;
 mod polynomial;
@@ -30,7 +30,7 @@ impl Truncated {
 
     // x^i.
     fn monomial(self, i: usize) -> Polynomial
-        ensures { result ≡ x-to self.base.value self.base.ok.0 self.depth i }
+        ensures { result ≡ x_to self.base.value self.base.ok.0 self.depth i }
     {
         let mut coefficients = [0u8; 8];
         if i < self.depth {
@@ -42,7 +42,7 @@ impl Truncated {
     // a + c × b.
     fn plus_scaled(self, a: Polynomial, c: u32, b: Polynomial) -> Polynomial
         requires { c < self.base.value }
-        ensures { result ≡ (eight self.base.value self.base.ok.0 self.depth).pack (plus-scaled self.base.value self.base.ok.0 self.depth a c b) }
+        ensures { result ≡ (eight self.base.value self.base.ok.0 self.depth).pack (plus_scaled self.base.value self.base.ok.0 self.depth a c b) }
     {
         let mut coefficients = [0u8; 8];
         for j in 0..self.depth {
@@ -55,7 +55,7 @@ impl Truncated {
     // The coefficient of x^k in a × b.
     fn product_at(self, a: Polynomial, b: Polynomial, k: usize) -> u8
         requires { k < 8 }
-        ensures is { result ≡ (product-of self.base.value self.base.ok.0 self.depth a b k).0 }
+        ensures is { result ≡ (product_of self.base.value self.base.ok.0 self.depth a b k).0 }
         ensures below { result < self.base.value }
     {
         let mut sum = 0u32;
@@ -95,7 +95,7 @@ impl Kind for Truncated {
 
     ghost ring = { λ k. polynomials k.base.value k.base.ok.0 k.depth };
 
-    ghost laws = { λ k. polynomials-laws k.base.value k.base.ok.0 k.depth k.ok.0 k.ok.1 };
+    ghost laws = { λ k. polynomials_laws k.base.value k.base.ok.0 k.depth k.ok.0 k.ok.1 };
 
     fn zero(&self) -> Polynomial {
         Polynomial {
