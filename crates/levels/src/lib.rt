@@ -4,7 +4,7 @@
 
 ghost use Rattle.std.specs.Prelude.{◌≡◌, ℕ, suc, ◌+◌, ◌*◌, ◌<◌, length};
 ghost use Rattle.rows.specs.Rows.{Holds, constant};
-ghost use Rattle.levels.specs.Levels.{«row_of»};
+ghost use Rattle.levels.specs.Levels.{row_of};
 ghost use Rattle.levels.specs.Rounds.{ToReduce, Reduced, ToKeepAll, Ready};
 
 use elimination::{eliminate, keep};
@@ -16,7 +16,7 @@ use rows::{begin_row, raise_row};
 // Begins the polynomial of each level: step^i.
 pub fn begin_levels<K: Kind>(kind: &K, shape: Shape, finding: &mut [K::Elem], depth: usize)
     requires { depth * (shape.count.words + 1) ≡ length finding.old }
-    ensures { (i : ℕ) → i < depth → Holds (laws kind.now) («row_of» shape finding.new i) (constant (laws kind.now) i) }
+    ensures { (i : ℕ) → i < depth → Holds (laws kind.now) (row_of shape finding.new i) (constant (laws kind.now) i) }
 {
     for i in 0..depth {
         let a = row_start(i, shape.count.words + 1, depth, finding.len());

@@ -37,10 +37,10 @@ pub fn value_at<K: Kind>(
     degree: usize,
     q: usize,
 ) -> K::Elem
-    requires held { Held (laws kind.now) shape words.now }
-    requires row { Row (laws kind.now) shape words.now degree row.now }
+    requires held { Held (K.laws kind.now) shape words.now }
+    requires row { Row (K.laws kind.now) shape words.now degree row.now }
     requires place { q < places shape degree }
-    ensures { Is (laws kind.now) result (value (capture_of (laws kind.now) shape words.now) (cells (laws kind.now) row.now) q) }
+    ensures { Is (K.laws kind.now) result (value (capture_of (K.laws kind.now) shape words.now) (cells (K.laws kind.now) row.now) q) }
 {
     let mut sum = kind.zero();
     for j in 0..degree + 1 {
@@ -61,11 +61,11 @@ pub fn first_nonzero<K: Kind>(
     degree: usize,
     start: usize,
 ) -> (usize, K::Elem)
-    requires held { Held (laws kind.now) shape words.now }
-    requires row { Row (laws kind.now) shape words.now degree row.now }
+    requires held { Held (K.laws kind.now) shape words.now }
+    requires row { Row (K.laws kind.now) shape words.now degree row.now }
     requires start { start ≤ places shape degree }
-    requires zeros { Zeros (capture_of (laws kind.now) shape words.now) degree start (cells (laws kind.now) row.now) }
-    ensures { Scanned (laws kind.now) shape words.now degree row.now start result.0 result.1 }
+    requires zeros { Zeros (capture_of (K.laws kind.now) shape words.now) degree start (cells (K.laws kind.now) row.now) }
+    ensures { Scanned (K.laws kind.now) shape words.now degree row.now start result.0 result.1 }
 {
     let depth = kind.depth();
     let end = place_count(shape, degree);

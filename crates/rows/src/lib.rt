@@ -4,7 +4,7 @@
 
 ghost use Rattle.std.specs.Prelude.{◌≡◌, ℕ, ◌-◌, ◌<◌, T, length, MatchOption};
 ghost use Rattle.ring.specs.Commutative.{power as raise};
-ghost use Rattle.ring.specs.Lawful.{Is, cells, lifted, «step_of», hold, AllLawful};
+ghost use Rattle.ring.specs.Lawful.{Is, cells, lifted, step_of, hold, AllLawful};
 ghost use Rattle.recurrence.proofs.Polynomials.{plus, shift};
 ghost use Rattle.rows.specs.Rows.{Clear, Holds, constant, Quotient, ToScale, Lower};
 
@@ -12,7 +12,7 @@ use ring::Kind;
 
 // step^i
 pub fn step_power<K: Kind>(kind: &K, i: usize) -> K::Elem
-    ensures { Is (laws kind.now) result (raise (lifted (laws kind.now)) («step_of» (laws kind.now)) i) }
+    ensures { Is (K.laws kind.now) result (raise (lifted (K.laws kind.now)) (step_of (K.laws kind.now)) i) }
 {
     let mut power = kind.one();
     for j in 0..i {
@@ -23,9 +23,9 @@ pub fn step_power<K: Kind>(kind: &K, i: usize) -> K::Elem
 
 // c with a = b × c, if there is one.
 pub fn quotient<K: Kind>(kind: &K, a: K::Elem, b: K::Elem) -> Option<K::Elem>
-    requires a { T ((ring kind.now).lawful a) }
-    requires b { T ((ring kind.now).lawful b) }
-    ensures { MatchOption result (Lower (laws kind.now) a b) (λ c. Quotient (laws kind.now) a b c) }
+    requires a { T ((K.ring kind.now).lawful a) }
+    requires b { T ((K.ring kind.now).lawful b) }
+    ensures { MatchOption result (Lower (K.laws kind.now) a b) (λ c. Quotient (K.laws kind.now) a b c) }
 {
     let (w, t) = kind.split(a);
     let (v, u) = kind.split(b);
@@ -45,8 +45,8 @@ pub fn sub_scaled<K: Kind>(
     other: &[K::Elem],
     terms: usize,
 )
-    requires { ToScale (laws kind.now) c row.old other.now terms }
-    ensures { Holds (laws kind.now) row.new (plus (lifted (laws kind.now)) (cells (laws kind.now) row.old) ((lifted (laws kind.now)).⊖◌ (hold (laws kind.now) c)) (cells (laws kind.now) other.now)) }
+    requires { ToScale (K.laws kind.now) c row.old other.now terms }
+    ensures { Holds (K.laws kind.now) row.new (plus (lifted (K.laws kind.now)) (cells (K.laws kind.now) row.old) ((lifted (K.laws kind.now)).⊖◌ (hold (K.laws kind.now) c)) (cells (K.laws kind.now) other.now)) }
 {
     for j in 0..terms {
         row[j] = kind.sub(row[j], kind.mul(c, other[j]));
@@ -55,7 +55,7 @@ pub fn sub_scaled<K: Kind>(
 
 // Sets every element to zero.
 pub fn clear<K: Kind>(kind: &K, cells: &mut [K::Elem])
-    ensures { Clear (ring kind.now) cells.new }
+    ensures { Clear (K.ring kind.now) cells.new }
 {
     let zero = kind.zero();
     for j in 0..cells.len() {
@@ -66,7 +66,7 @@ pub fn clear<K: Kind>(kind: &K, cells: &mut [K::Elem])
 // The polynomial step^i.
 pub fn begin_row<K: Kind>(kind: &K, row: &mut [K::Elem], i: usize)
     requires { 0 < length row.old }
-    ensures { Holds (laws kind.now) row.new (constant (laws kind.now) i) }
+    ensures { Holds (K.laws kind.now) row.new (constant (K.laws kind.now) i) }
 {
     clear(kind, row);
     row[0] = step_power(kind, i);
@@ -75,9 +75,9 @@ pub fn begin_row<K: Kind>(kind: &K, row: &mut [K::Elem], i: usize)
 // y times the polynomial in row, whose last coefficient is zero.
 pub fn raise_row<K: Kind>(kind: &K, row: &mut [K::Elem])
     requires long { 0 < length row.old }
-    requires lawful { AllLawful (laws kind.now) row.old }
-    requires top { cells (laws kind.now) row.old (length row.old - 1) ≡ (lifted (laws kind.now)).𝟘 }
-    ensures { Holds (laws kind.now) row.new (shift (lifted (laws kind.now)) 1 (cells (laws kind.now) row.old)) }
+    requires lawful { AllLawful (K.laws kind.now) row.old }
+    requires top { cells (K.laws kind.now) row.old (length row.old - 1) ≡ (lifted (K.laws kind.now)).𝟘 }
+    ensures { Holds (K.laws kind.now) row.new (shift (lifted (K.laws kind.now)) 1 (cells (K.laws kind.now) row.old)) }
 {
     let last = row.len() - 1;
     row.copy_within(0..last, 1);

@@ -34,8 +34,8 @@ impl<S> Stride<S> {
     where
         S: Source<K>,
         ensures inner { result.inner ≡ inner }
-        ensures list { Makes (stride_rows m) (K.Kind.ring (kind_of inner)) (λ t. list inner (m * t)) (strided (K.Kind.ring (kind_of result.inner)) result.step (list result.inner)) }
-        ensures obeys { (D : ℕ) (q : ℕ → K.Elem) → m ≡ 1 → Obeys (K.Kind.ring (kind_of inner)) D q (list inner) → Obeys (K.Kind.ring (kind_of inner)) D q (strided (K.Kind.ring (kind_of result.inner)) result.step (list result.inner)) }
+        ensures list { Makes (stride_rows m) (K.Kind.ring (S.kind_of inner)) (λ t. list inner (m * t)) (strided (K.Kind.ring (S.kind_of result.inner)) result.step (list result.inner)) }
+        ensures obeys { (D : ℕ) (q : ℕ → K.Elem) → m ≡ 1 → Obeys (K.Kind.ring (S.kind_of inner)) D q (list inner) → Obeys (K.Kind.ring (S.kind_of inner)) D q (strided (K.Kind.ring (S.kind_of result.inner)) result.step (list result.inner)) }
     {
         let step = if check_stride(m).is_ok() { m } else { 0 };
         Stride { inner, step }
@@ -145,7 +145,7 @@ impl<K: Kind, A: Source<K>, B: Source<K>> Source<K> for Sum<A, B> {
 
 // Whether a source may be scaled by c: foreign unless c is lawful in its kind.
 pub fn check_scaling<K: Kind, S: Source<K>>(source: &S, c: K::Elem) -> Result<(), Refusal>
-    ensures { Call (scaling_rows (K.Kind.ring (kind_of source.now)) c) result (λ _. Unit {0}) (Unit {0}) }
+    ensures { Call (scaling_rows (K.Kind.ring (S.kind_of source.now)) c) result (λ _. Unit {0}) (Unit {0}) }
 {
     if source.kind().is_lawful(c) {
         Ok(())
@@ -167,9 +167,9 @@ impl<S, E> Scaling<S, E> {
     where
         S: Source<K>,
         ensures inner { result.inner ≡ inner }
-        ensures list { Makes (scaling_rows (K.Kind.ring (kind_of inner)) c) (K.Kind.ring (kind_of inner)) (λ t. (K.Kind.ring (kind_of inner)).mul c (list inner t))
-            (scaled (K.Kind.laws (kind_of result.inner)) result.by (list result.inner)) }
-        ensures obeys { (D : ℕ) (q : ℕ → E) → Obeys (K.Kind.ring (kind_of inner)) D q (list inner) → Obeys (K.Kind.ring (kind_of inner)) D q (scaled (K.Kind.laws (kind_of result.inner)) result.by (list result.inner)) }
+        ensures list { Makes (scaling_rows (K.Kind.ring (S.kind_of inner)) c) (K.Kind.ring (S.kind_of inner)) (λ t. (K.Kind.ring (S.kind_of inner)).mul c (list inner t))
+            (scaled (K.Kind.laws (S.kind_of result.inner)) result.by (list result.inner)) }
+        ensures obeys { (D : ℕ) (q : ℕ → E) → Obeys (K.Kind.ring (S.kind_of inner)) D q (list inner) → Obeys (K.Kind.ring (S.kind_of inner)) D q (scaled (K.Kind.laws (S.kind_of result.inner)) result.by (list result.inner)) }
     {
         let by = hold(&inner.kind(), c);
         Scaling { inner, by }

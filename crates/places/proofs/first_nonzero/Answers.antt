@@ -16,14 +16,14 @@ returns-then-valuation-depth g c =
       onward = omega (arith, c.loop-q.auto.q);
       within = omega arith;
       zeros = c.loop-q.invariant;
-      is = λ h. c.value-at-value.ensures;
-      here = λ h. not_zero L c.args.shape c.args.words.now _ _ _ _ c.value-at-value.ensures c.split-valuation.ensures (omega arith);
+      is = λ h. c.value_at-value.ensures;
+      here = λ h. not_zero L c.args.shape c.args.words.now _ _ _ _ c.value_at-value.ensures c.split-valuation.ensures (omega arith);
     }
 
 pub loop-q-preserved : goal.loop-q-preserved
 loop-q-preserved g c =
     let L = g.K.Kind.laws c.args.kind.now in
-    zeros_on L c.args.shape c.args.words.now c.args.degree c.loop-q.q (cells L c.args.row.now) _ _ _ c.loop-q.invariant c.value-at-value.ensures c.split-valuation.ensures (omega arith)
+    zeros_on L c.args.shape c.args.words.now c.args.degree c.loop-q.q (cells L c.args.row.now) _ _ _ c.loop-q.invariant c.value_at-value.ensures c.split-valuation.ensures (omega arith)
 
 pub returns : goal.returns
 returns g c =

@@ -13,4 +13,4 @@ pub returns : goal.returns
 returns g c =
     let L = g.K.Kind.laws c.args.kind.now in
     quotient_made L c.args.a c.args.b _ _ _ _ _ _ _ _ c.requires.a c.requires.b c.split-w.ensures c.split-v.ensures (omega arith)
-    c.inverse.ensures c.mul-part.ensures c.step-power-power.ensures c.mul.ensures
+    c.inverse.ensures c.mul-part.ensures c.step_power-power.ensures c.mul.ensures

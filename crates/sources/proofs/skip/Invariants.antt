@@ -4,5 +4,5 @@ use Rattle.sources.proofs.skip.Given as goal
 abbrev pub invariant-loop-k : goal.invariant-loop-k
 invariant-loop-k g l =
     let s = g.S.Source in
-    ((t : ℕ) → s.list l.source t ≡ s.list l.initial.source (l.-k + t))
+    ((t : ℕ) → s.list l.source t ≡ s.list l.initial.source (l._k + t))
     × (s.kind_of l.source ≡ s.kind_of l.initial.source)

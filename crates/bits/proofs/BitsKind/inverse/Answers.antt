@@ -13,9 +13,9 @@ loop-i-preserved c hu ou =
     let l = c.loop-i in
     elim c.if-rest-eq1.branch [
       | then-rest-eq1 w ↦ divided_odd k.depth k.ok.0 k.ok.1 c.args.u l.w l.rest l.i _ _ c.loop-i-test.true hu ou
-          (odd_taken l.rest w.if-rest-eq1.true) w.w_is w.rest-is (l.invariant hu ou)
+          (odd_taken l.rest w.if-rest-eq1.true) w.w-is w.rest-is (l.invariant hu ou)
       | else-rest-eq1 w ↦ divided_even k.depth k.ok.0 k.ok.1 c.args.u l.w l.rest l.i _ _
-          (even_left l.rest w.if-rest-eq1.false) w.w_is w.rest-is (l.invariant hu ou)
+          (even_left l.rest w.if-rest-eq1.false) w.w-is w.rest-is (l.invariant hu ou)
     ]
 
 pub returns : goal.returns

@@ -11,7 +11,7 @@ loop-base-init c = (refl, sym (zero-add _), omega arith)
 
 pub loop-base-preserved : goal.loop-base-preserved
 loop-base-preserved c =
-    let i = c.loop-base.base_index in
+    let i = c.loop-base.base-index in
     let a = past_among c.args.p bases i c.loop-base-test.true c.if-base-p.false in
     let b = past_before c.args.p bases i c.loop-base-test.true c.if-base-p.false in
-    (c.loop-base.invariant.0 ∙ a, omega arith, omega (arith, c.loop-base-test.element-fits))
+    (c.loop-base.invariant.0 ∙ a, omega arith, omega (arith, c.loop-base-test.element_fits))
