@@ -20,8 +20,8 @@ fn solve<K: Kind>(
     finding: &mut [K::Elem],
     table: &mut Record,
 )
-    requires { ToSolve (laws kind.now) shape words.now finding.old store.old }
-    ensures { Solved (laws kind.now) shape words.now finding.new table.new.levels }
+    requires { ToSolve (K.laws kind.now) shape words.now finding.old store.old }
+    ensures { Solved (K.laws kind.now) shape words.now finding.new table.new.levels }
 {
     let depth = kind.depth();
     let mut places = [0; 31];
@@ -72,7 +72,7 @@ pub fn find<K: Kind>(
     finding: &mut [K::Elem],
     work: &mut [K::Elem],
 ) -> Result<(), Refusal>
-    ensures { Sought (ring kind.now) shape words.now table.old.levels finding.old work.old result table.new.levels finding.new work.new }
+    ensures { Sought (K.ring kind.now) shape words.now table.old.levels finding.old work.old result table.new.levels finding.new work.new }
 {
     let depth = kind.depth();
     let rows = depth * (shape.count.words + 1);

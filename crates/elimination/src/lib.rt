@@ -19,8 +19,8 @@ pub fn eliminate<K: Kind>(
     degree: usize,
     start: usize,
 ) -> usize
-    requires { ToEliminate (laws kind.now) shape words.now degree start row.old store.now }
-    ensures { Eliminated (laws kind.now) shape words.now degree row.old row.new store.now result }
+    requires { ToEliminate (K.laws kind.now) shape words.now degree start row.old store.now }
+    ensures { Eliminated (K.laws kind.now) shape words.now degree row.old row.new store.now result }
 {
     let end = place_count(shape, degree);
     let mut q = start;
@@ -58,8 +58,8 @@ pub fn keep<K: Kind>(
     degree: usize,
     q: usize,
 )
-    requires { ToKeep (laws kind.now) shape words.now degree q row.now store.old }
-    ensures { KeptOne (laws kind.now) shape words.now degree q row.now store.old store.new }
+    requires { ToKeep (K.laws kind.now) shape words.now degree q row.now store.old }
+    ensures { KeptOne (K.laws kind.now) shape words.now degree q row.now store.old store.new }
 {
     let a = row_start(
         q,

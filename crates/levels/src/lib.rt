@@ -16,7 +16,7 @@ use rows::{begin_row, raise_row};
 // Begins the polynomial of each level: step^i.
 pub fn begin_levels<K: Kind>(kind: &K, shape: Shape, finding: &mut [K::Elem], depth: usize)
     requires { depth * (shape.count.words + 1) ≡ length finding.old }
-    ensures { (i : ℕ) → i < depth → Holds (laws kind.now) (row_of shape finding.new i) (constant (laws kind.now) i) }
+    ensures { (i : ℕ) → i < depth → Holds (K.laws kind.now) (row_of shape finding.new i) (constant (K.laws kind.now) i) }
 {
     for i in 0..depth {
         let a = row_start(i, shape.count.words + 1, depth, finding.len());
@@ -37,8 +37,8 @@ pub fn reduce_levels<K: Kind>(
     degree: usize,
     depth: usize,
 )
-    requires { ToReduce (laws kind.now) shape words.now depth degree finding.old table.old.levels places.old store.now }
-    ensures { Reduced (laws kind.now) shape words.now depth finding.new table.new.levels places.new degree store.now }
+    requires { ToReduce (K.laws kind.now) shape words.now depth degree finding.old table.old.levels places.old store.now }
+    ensures { Reduced (K.laws kind.now) shape words.now depth finding.new table.new.levels places.new degree store.now }
 {
     let end = place_count(shape, degree);
     for i in 0..depth {
@@ -79,8 +79,8 @@ pub fn keep_levels<K: Kind>(
     degree: usize,
     depth: usize,
 )
-    requires { ToKeepAll (laws kind.now) shape words.now depth degree finding.old table.now.levels places.old store.old }
-    ensures { Ready (laws kind.now) shape words.now depth finding.new table.now.levels places.new (suc degree) store.new }
+    requires { ToKeepAll (K.laws kind.now) shape words.now depth degree finding.old table.now.levels places.old store.old }
+    ensures { Ready (K.laws kind.now) shape words.now depth finding.new table.now.levels places.new (suc degree) store.new }
 {
     for i in 0..depth {
         if table.levels[i].found {

@@ -18,7 +18,7 @@ pub const MOST: usize = 128;
 
 // The element at a place as a lawful one; zero past the end.
 fn cell<K: Kind>(kind: &K, xs: &[K::Elem], j: usize) -> K::Elem
-    ensures { result ≡ (lawfully (laws kind.now) xs.now j).0 }
+    ensures { result ≡ (lawfully (K.laws kind.now) xs.now j).0 }
 {
     if j < xs.len() {
         hold(kind, xs[j])
@@ -77,7 +77,7 @@ fn stages_of<K: Kind>(kind: &K, coefficients: &[K::Elem], stages: &[K::Elem]) ->
 
 // The sum of the values, each times its coefficient.
 fn dot<K: Kind>(kind: &K, coefficients: &[K::Elem], values: &[K::Elem]) -> K::Elem
-    ensures { result ≡ (products (laws kind.now) coefficients.now values.now).0 }
+    ensures { result ≡ (products (K.laws kind.now) coefficients.now values.now).0 }
 {
     let mut sum = kind.zero();
     for j in 0..values.len() {
@@ -90,7 +90,7 @@ fn dot<K: Kind>(kind: &K, coefficients: &[K::Elem], values: &[K::Elem]) -> K::El
 
 // The element that follows those of the line.
 fn following<K: Kind>(kind: &K, coefficients: &[K::Elem], line: &DelayLine<K::Elem>) -> K::Elem
-    ensures { result ≡ ((lifted (laws kind.now)).⊖◌ (products (laws kind.now) coefficients.now (window line.now.cells.now line.now.len line.now.at))).0 }
+    ensures { result ≡ ((lifted (K.laws kind.now)).⊖◌ (products (K.laws kind.now) coefficients.now (window line.now.cells.now line.now.len line.now.at))).0 }
 {
     let older = line.older();
     let newer = line.newer();

@@ -34,8 +34,8 @@ impl<S> Stride<S> {
     where
         S: Source<K>,
         ensures inner { result.inner ≡ inner }
-        ensures list { Makes (stride_rows m) (K.Kind.ring (S.kind_of inner)) (λ t. list inner (m * t)) (strided (K.Kind.ring (S.kind_of result.inner)) result.step (list result.inner)) }
-        ensures obeys { (D : ℕ) (q : ℕ → K.Elem) → m ≡ 1 → Obeys (K.Kind.ring (S.kind_of inner)) D q (list inner) → Obeys (K.Kind.ring (S.kind_of inner)) D q (strided (K.Kind.ring (S.kind_of result.inner)) result.step (list result.inner)) }
+        ensures list { Makes (stride_rows m) (K.Kind.ring (S.kind_of inner)) (λ t. S.list inner (m * t)) (strided (K.Kind.ring (S.kind_of result.inner)) result.step (S.list result.inner)) }
+        ensures obeys { (D : ℕ) (q : ℕ → K.Elem) → m ≡ 1 → Obeys (K.Kind.ring (S.kind_of inner)) D q (S.list inner) → Obeys (K.Kind.ring (S.kind_of inner)) D q (strided (K.Kind.ring (S.kind_of result.inner)) result.step (S.list result.inner)) }
     {
         let step = if check_stride(m).is_ok() { m } else { 0 };
         Stride { inner, step }
@@ -167,9 +167,9 @@ impl<S, E> Scaling<S, E> {
     where
         S: Source<K>,
         ensures inner { result.inner ≡ inner }
-        ensures list { Makes (scaling_rows (K.Kind.ring (S.kind_of inner)) c) (K.Kind.ring (S.kind_of inner)) (λ t. (K.Kind.ring (S.kind_of inner)).mul c (list inner t))
-            (scaled (K.Kind.laws (S.kind_of result.inner)) result.by (list result.inner)) }
-        ensures obeys { (D : ℕ) (q : ℕ → E) → Obeys (K.Kind.ring (S.kind_of inner)) D q (list inner) → Obeys (K.Kind.ring (S.kind_of inner)) D q (scaled (K.Kind.laws (S.kind_of result.inner)) result.by (list result.inner)) }
+        ensures list { Makes (scaling_rows (K.Kind.ring (S.kind_of inner)) c) (K.Kind.ring (S.kind_of inner)) (λ t. (K.Kind.ring (S.kind_of inner)).mul c (S.list inner t))
+            (scaled (K.Kind.laws (S.kind_of result.inner)) result.by (S.list result.inner)) }
+        ensures obeys { (D : ℕ) (q : ℕ → E) → Obeys (K.Kind.ring (S.kind_of inner)) D q (S.list inner) → Obeys (K.Kind.ring (S.kind_of inner)) D q (scaled (K.Kind.laws (S.kind_of result.inner)) result.by (S.list result.inner)) }
     {
         let by = hold(&inner.kind(), c);
         Scaling { inner, by }

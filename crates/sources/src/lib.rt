@@ -1,4 +1,4 @@
-// Sources: pattern generators, known by their kind and an endless List of elements only.
+// Sources: pattern generators, known by their kind and an endless list of elements only.
 #![tactic(auto)]
 
 ghost use Rattle.std.specs.Prelude.{◌≡◌, ℕ, ◌+◌, T, length};
@@ -12,7 +12,7 @@ use ring::{Kind, Refusal};
 pub mod adapters;
 pub mod delay;
 
-// A pattern generator. Neither call refuses, and whatever holds of a List holds of every source that has it.
+// A pattern generator. Neither call refuses, and whatever holds of a list holds of every source that has it.
 pub trait Source<K: Kind> {
     // The kind of its elements, and the elements to come: the next one at 0.
     ghost kind_of: { Self → K };
@@ -22,13 +22,13 @@ pub trait Source<K: Kind> {
     // Its kind; nothing changes, and every element to come is lawful in it.
     fn kind(&self) -> K
         ensures is { result ≡ kind_of self.now }
-        ensures lawful { (t : ℕ) → T ((K.Kind.ring (kind_of self.now)).lawful (List self.now t)) };
+        ensures lawful { (t : ℕ) → T ((K.Kind.ring (kind_of self.now)).lawful (list self.now t)) };
 
-    // The next element; afterwards the List begins at the one after it.
+    // The next element; afterwards the list begins at the one after it.
     fn next(&mut self) -> K::Elem
-        ensures first { result ≡ List self.old 0 }
+        ensures first { result ≡ list self.old 0 }
         ensures lawful { T ((K.Kind.ring (kind_of self.old)).lawful result) }
-        ensures later { (t : ℕ) → List self.new t ≡ List self.old (t + 1) }
+        ensures later { (t : ℕ) → list self.new t ≡ list self.old (t + 1) }
         ensures same { kind_of self.new ≡ kind_of self.old };
 }
 
@@ -36,7 +36,7 @@ pub trait Source<K: Kind> {
 impl<K: Kind, S: Source<K>> Source<K> for &mut S {
     ghost kind_of = { λ s. S.Source.kind_of s.now };
 
-    ghost List = { λ s t. S.Source.list s.now t };
+    ghost list = { λ s t. S.Source.list s.now t };
 
     fn kind(&self) -> K {
         (**self).kind()
@@ -56,7 +56,7 @@ pub fn hold<K: Kind>(kind: &K, a: K::Elem) -> K::Elem
 
 // Passes over m elements.
 fn skip<K: Kind, S: Source<K>>(source: &mut S, m: usize)
-    ensures later { (t : ℕ) → List source.new t ≡ List source.old (m + t) }
+    ensures later { (t : ℕ) → S.list source.new t ≡ S.list source.old (m + t) }
     ensures same { S.kind_of source.new ≡ S.kind_of source.old }
 {
     for _k in 0..m {
@@ -72,9 +72,9 @@ pub fn draw<K: Kind, S: Source<K>>(
     m: usize,
 ) -> Result<(), Refusal>
     ensures { Call (draw_rows (length out.old) from m) result
-        (λ _. Written out.old out.new from m (List source.old)
-        × ((t : ℕ) → List source.new t ≡ List source.old (m + t))
-        × (kind_of source.new ≡ kind_of source.old))
+        (λ _. Written out.old out.new from m (S.list source.old)
+        × ((t : ℕ) → S.list source.new t ≡ S.list source.old (m + t))
+        × (S.kind_of source.new ≡ S.kind_of source.old))
         ((out.new ≡ out.old) × (source.new ≡ source.old)) }
 {
     let room = out.len();

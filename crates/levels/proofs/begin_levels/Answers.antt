@@ -8,11 +8,11 @@ use Rattle.levels.proofs.begin_levels.Goals as goal
 pub loop-i-init : goal.loop-i-init
 loop-i-init g c = (c.requires, λ j h. absurd (omega arith))
 
-pub row-start-a-requires : goal.row-start-a-requires
-row-start-a-requires g c = record { below = c.loop-i-test.true; size = c.loop-i.invariant.0 }
+pub row_start-a-requires : goal.row_start-a-requires
+row_start-a-requires g c = record { below = c.loop-i-test.true; size = c.loop-i.invariant.0 }
 
-pub begin-row-requires : goal.begin-row-requires
-begin-row-requires g c = omega (arith, part_long c.args.shape c.loop-i.finding c.row-start-a.result c.row-start-a.ensures.room)
+pub begin_row-requires : goal.begin_row-requires
+begin_row-requires g c = omega (arith, part_long c.args.shape c.loop-i.finding c.row_start-a.result c.row_start-a.ensures.room)
 
 pub loop-i-preserved : goal.loop-i-preserved
 loop-i-preserved g c =
@@ -20,15 +20,15 @@ loop-i-preserved g c =
     let shape = c.args.shape in
     let i = c.loop-i.i in
     let fm = c.loop-i.finding in
-    let a = c.row-start-a.result in
-    let new = c.begin-row.new.row in
-    let ea = c.row-start-a.ensures.at in
-    let room = c.row-start-a.ensures.room in
-    let len = c.begin-row.auto.row ∙ part_long shape fm a room in (
+    let a = c.row_start-a.result in
+    let new = c.begin_row.new.row in
+    let ea = c.row_start-a.ensures.at in
+    let room = c.row_start-a.ensures.room in
+    let len = c.begin_row.auto.row ∙ part_long shape fm a room in (
       c.loop-i.invariant.0 ∙ sym (put_size shape i a fm new ea room len),
       below_more _ _
           (λ j h. let ne : j ≢ i = omega arith in subst (λ r. Holds L r (constant L j)) (sym (put_others shape i a fm new ea room len j ne)) (c.loop-i.invariant.1 j h))
-          (subst (λ r. Holds L r (constant L i)) (sym (put_here shape i a fm new ea room len)) c.begin-row.ensures),
+          (subst (λ r. Holds L r (constant L i)) (sym (put_here shape i a fm new ea room len)) c.begin_row.ensures),
     )
 
 pub returns : goal.returns

@@ -35,8 +35,8 @@ loop-i-preserved-then-table-i g c =
       below_more _ _ c.loop-i.invariant.4 (λ h. absurd (not_both c.if-table-i.true h)),
     )
 
-pub row-start-a-requires : goal.row-start-a-requires
-row-start-a-requires g c = record { below = c.loop-i-test.true; size = c.loop-i.invariant.0.size }
+pub row_start-a-requires : goal.row_start-a-requires
+row_start-a-requires g c = record { below = c.loop-i-test.true; size = c.loop-i.invariant.0.size }
 
 pub keep-requires : goal.keep-requires
 keep-requires g c =
@@ -46,24 +46,24 @@ keep-requires g c =
     let s = c.args.degree in
     let i = c.loop-i.i in
     let fm = c.loop-i.finding in
-    let a = c.row-start-a.result in
+    let a = c.row_start-a.result in
     let same = c.loop-i.invariant.2 i c.loop-i-test.true (omega arith) in
-    let after = turned shape (λ r l p. After L shape ws s i r l p) (part_row shape fm a i c.row-start-a.ensures.at ∙ same.0) refl same.1 (c.requires.reduced.after i c.loop-i-test.true) in
-    to_keep L shape ws s i _ _ c.loop-i.store c.requires.held c.requires.small (part_long shape fm a c.row-start-a.ensures.room) c.loop-i.invariant.1.store (after.stopped c.if-table-i.false)
+    let after = turned shape (λ r l p. After L shape ws s i r l p) (part_row shape fm a i c.row_start-a.ensures.at ∙ same.0) refl same.1 (c.requires.reduced.after i c.loop-i-test.true) in
+    to_keep L shape ws s i _ _ c.loop-i.store c.requires.held c.requires.small (part_long shape fm a c.row_start-a.ensures.room) c.loop-i.invariant.1.store (after.stopped c.if-table-i.false)
 
-pub raise-row-requires : goal.raise-row-requires
-raise-row-requires g c =
+pub raise_row-requires : goal.raise_row-requires
+raise_row-requires g c =
     let L = g.K.Kind.laws c.args.kind.now in
     let shape = c.args.shape in
     let ws = c.args.words.now in
     let s = c.args.degree in
     let i = c.loop-i.i in
     let fm = c.loop-i.finding in
-    let a = c.row-start-a.result in
+    let a = c.row_start-a.result in
     let same = c.loop-i.invariant.2 i c.loop-i-test.true (omega arith) in
-    let after = turned shape (λ r l p. After L shape ws s i r l p) (part_row shape fm a i c.row-start-a.ensures.at ∙ same.0) refl same.1 (c.requires.reduced.after i c.loop-i-test.true) in
+    let after = turned shape (λ r l p. After L shape ws s i r l p) (part_row shape fm a i c.row_start-a.ensures.at ∙ same.0) refl same.1 (c.requires.reduced.after i c.loop-i-test.true) in
     let st = after.stopped c.if-table-i.false in
-    let long = part_long shape fm a c.row-start-a.ensures.room in
+    let long = part_long shape fm a c.row_start-a.ensures.room in
     record { long = omega (arith, long); lawful = st.lawful; top = st.monic.below _ (omega (arith, long, room_above L shape ws s i _ _ st)) }
 
 pub loop-i-preserved : goal.loop-i-preserved
@@ -79,24 +79,24 @@ loop-i-preserved g c =
     let levels = c.args.table.now.levels in
     let places = c.loop-i.places in
     let before = c.args.places.now in
-    let a = c.row-start-a.result in
-    let ea = c.row-start-a.ensures.at in
-    let room = c.row-start-a.ensures.room in
-    let new = c.raise-row.new.row in
-    let p = c.saturating-sub.result in
-    let len = c.raise-row.auto.row ∙ part_long shape fm a room in
+    let a = c.row_start-a.result in
+    let ea = c.row_start-a.ensures.at in
+    let room = c.row_start-a.ensures.room in
+    let new = c.raise_row.new.row in
+    let p = c.saturating_sub.result in
+    let len = c.raise_row.auto.row ∙ part_long shape fm a room in
     let fits : i < length places = omega (arith, c.loop-i.invariant.0.place_room, c.loop-i.invariant.0.deep, L.depth_high) in
     let same = c.loop-i.invariant.2 i c.loop-i-test.true (omega arith) in
     let part = part_row shape fm a i ea ∙ same.0 in
     let after = turned shape (λ r l q. After L shape ws s i r l q) part refl same.1 (c.requires.reduced.after i c.loop-i-test.true) in
     let turn = turn_put shape i a fm new levels levels places p ea room len (λ j ne. refl) in
-    let next = raised L shape ws s i (get_or places i 0) _ new (get_or levels i blank) c.if-table-i.false (after.stopped c.if-table-i.false) c.raise-row.ensures in (
+    let next = raised L shape ws s i (get_or places i 0) _ new (get_or levels i blank) c.if-table-i.false (after.stopped c.if-table-i.false) c.raise_row.ensures in (
       tables_put L shape ws d i p fm _ levels levels places (put_size shape i a fm new ea room len) refl (λ j ne. refl) c.loop-i-test.true c.loop-i.invariant.0,
       grown_on L shape ws (suc s) c.args.store.now c.loop-i.store c.keep.new.store c.loop-i.invariant.1 c.keep.ensures.grown,
       λ j h k. let ne : j ≢ i = omega arith in
           (put_others shape i a fm new ea room len j ne ∙ (c.loop-i.invariant.2 j h (omega arith)).0, get_or-set_other places i j p 0 ne ∙ (c.loop-i.invariant.2 j h (omega arith)).1),
       turn_done shape (λ j r l q. Before L shape ws (suc s) j r l q) i fm _ levels levels places _ turn c.loop-i.invariant.3
-          (turned shape (λ r l q. Before L shape ws (suc s) i r l q) (put_here shape i a fm new ea room len) refl (get_or-set_same places i p 0 fits ∙ c.saturating-sub.ensures) next),
+          (turned shape (λ r l q. Before L shape ws (suc s) i r l q) (put_here shape i a fm new ea room len) refl (get_or-set_same places i p 0 fits ∙ c.saturating_sub.ensures) next),
       served_next L shape ws (suc s) i (row_of shape old) (λ j. get_or levels j blank) (λ j. get_or before j 0) c.loop-i.store c.keep.new.store c.keep.ensures.grown c.loop-i.invariant.4
           (turned shape (λ r l q. Served L shape ws r l q c.keep.new.store) {level = get_or levels i blank} (sym part) refl (sym same.1) (λ _. c.keep.ensures.here)),
     )

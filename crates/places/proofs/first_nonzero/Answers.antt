@@ -3,11 +3,11 @@ use Rattle.ring.specs.Lawful.{cells}
 use Rattle.places.proofs.Values.{zeros_on, not_zero}
 use Rattle.places.proofs.first_nonzero.Goals as goal
 
-pub place-count-end-requires : goal.place-count-end-requires
-place-count-end-requires g c = c.requires.row.small
+pub place_count-end-requires : goal.place_count-end-requires
+place_count-end-requires g c = c.requires.row.small
 
-pub value-at-value-requires : goal.value-at-value-requires
-value-at-value-requires g c = record { held = c.requires.held; row = c.requires.row; place = omega arith }
+pub value_at-value-requires : goal.value_at-value-requires
+value_at-value-requires g c = record { held = c.requires.held; row = c.requires.row; place = omega arith }
 
 pub returns-then-valuation-depth : goal.returns-then-valuation-depth
 returns-then-valuation-depth g c =

@@ -3,8 +3,8 @@ use Rattle.std.proofs.lemmas.List.{get_or_read}
 use Rattle.places.proofs.Places.{held_within, place_of}
 use Rattle.places.proofs.read.Goals as goal
 
-pub offset-bounds-words-q : goal.offset-bounds-words-q
-offset-bounds-words-q g c = omega (arith, held_within c.args.shape)
+pub offset_bounds-words-q : goal.offset_bounds-words-q
+offset_bounds-words-q g c = omega (arith, held_within c.args.shape)
 
 pub bounds-words-q : goal.bounds-words-q
 bounds-words-q g c = omega (arith, held_within c.args.shape)

@@ -13,7 +13,7 @@ loop-j-preserved g c =
     let L = g.K.Kind.laws c.args.kind.now in
     let f : ℕ → Lawful L = λ i. (lifted L).◌⊗◌ (cells L c.args.coefficients.now i) (cells L c.args.values.now i) in
     let turn : Is L c.add-sum.result (sum (lifted L) (suc c.loop-j.j) f) =
-    sum_turn L c.loop-j.j f c.loop-j.invariant (record { eq = c.cell-coefficient.ensures }) (record { eq = c.cell_value.ensures }) refl c.mul.ensures c.add-sum.ensures in
+    sum_turn L c.loop-j.j f c.loop-j.invariant (record { eq = c.cell-coefficient.ensures }) (record { eq = c.cell-value.ensures }) refl c.mul.ensures c.add-sum.ensures in
     subst (λ n. Is L c.add-sum.result (sum (lifted L) n f)) (sym (add-one c.loop-j.j)) turn
 
 pub returns : goal.returns

@@ -7,8 +7,8 @@ use Rattle.residue.proofs.power.Goals as goal
 pub loop-init : goal.loop-init
 loop-init c = (sym (pow-zero c.args.base.value), omega arith)
 
-pub overflow-mul-next : goal.overflow-mul-next
-overflow-mul-next c =
+pub overflow_mul-next : goal.overflow_mul-next
+overflow_mul-next c =
     let high = listed_high c.args.base.value c.args.base.ok.0 in
     omega (arith, mul-le-mul c.loop.invariant.1 high)
 

@@ -7,8 +7,8 @@ use Rattle.residue.proofs.split_dividing.Goals as goal
 pub loop-u-init : goal.loop-u-init
 loop-u-init c = (ap (λ (x : ℕ). c.args.a * x) (pow-zero c.args.base.value) ∙ mul-one c.args.a, c.requires, omega arith)
 
-pub nonzero-rem-u : goal.nonzero-rem-u
-nonzero-rem-u c = omega (arith, listed_low c.args.base.value c.args.base.ok.0)
+pub nonzero_rem-u : goal.nonzero_rem-u
+nonzero_rem-u c = omega (arith, listed_low c.args.base.value c.args.base.ok.0)
 
 pub loop-u-smaller : goal.loop-u-smaller
 loop-u-smaller c = div-lt_self c.loop-u.invariant.1 (listed_low c.args.base.value c.args.base.ok.0)

@@ -6,10 +6,10 @@ use Rattle.registers.proofs.Loop.new.Goals as goal
 pub returns : goal.returns
 returns g c =
     let xs = c.args.elements.now in
-    let n : ℕ = c.loop-of.result in
+    let n : ℕ = c.loop_of.result in
     let size : c.min-len.result - 0 ≡ min n (length xs) = omega arith in
     record {
       kind = refl;
-      list = made (g.K.Kind.laws c.args.kind) xs (take (c.min-len.result - 0) xs) n c.loop-of.ensures.accepted c.loop-of.ensures.refused
+      list = made (g.K.Kind.laws c.args.kind) xs (take (c.min-len.result - 0) xs) n c.loop_of.ensures.accepted c.loop_of.ensures.refused
           (ap (λ (k : ℕ). take k xs) size ∙ take_min n xs);
     }

@@ -4,8 +4,8 @@ use Rattle.inverses.proofs.Bases.{listed_low}
 use Rattle.residue.proofs.Units.{first, last}
 use Rattle.residue.proofs.ResidueKind.inverse.Goals as goal
 
-pub nonzero-rem-u : goal.nonzero-rem-u
-nonzero-rem-u c = let b = c.args.self.now.base in omega (arith, listed_low b.value b.ok.0)
+pub nonzero_rem-u : goal.nonzero_rem-u
+nonzero_rem-u c = let b = c.args.self.now.base in omega (arith, listed_low b.value b.ok.0)
 
 pub loop-known-init : goal.loop-known-init
 loop-known-init c =

@@ -13,11 +13,11 @@ returns-then-a-eq0 c la =
 pub returns-then-self-eq2 : goal.returns-then-self-eq2
 returns-then-self-eq2 c la =
     let k = c.args.self.now in
-    let binary : Parts k.base.value c.args.a c.split-binary.result.0 c.split-binary.result.1
-    = subst (λ (p : ℕ). Parts p c.args.a c.split-binary.result.0 c.split-binary.result.1) (sym c.if-self-eq2.true) c.split-binary.ensures in
+    let binary : Parts k.base.value c.args.a c.split_binary.result.0 c.split_binary.result.1
+    = subst (λ (p : ℕ). Parts p c.args.a c.split_binary.result.0 c.split_binary.result.1) (sym c.if-self-eq2.true) c.split_binary.ensures in
     split_parts k.base.value k.depth k.base.ok.0 k.ok.0 c.args.a _ _ la binary
 
 pub returns-else-self-eq2 : goal.returns-else-self-eq2
 returns-else-self-eq2 c la =
     let k = c.args.self.now in
-    split_parts k.base.value k.depth k.base.ok.0 k.ok.0 c.args.a _ _ la c.split-dividing.ensures
+    split_parts k.base.value k.depth k.base.ok.0 k.ok.0 c.args.a _ _ la c.split_dividing.ensures

@@ -13,7 +13,7 @@ loop-k-preserved c one lt =
     let k = c.args.self.now in
     let l = c.loop-k in
     inverted_next k.base.value k.base.ok.0 k.depth k.ok.1 c.args.u l.w.coefficients l.k _ _ _ (omega arith) (omega arith) one lt
-    c.inverse-constant.ensures c.product-at.ensures.is refl (l.invariant one lt)
+    c.inverse-constant.ensures c.product_at.ensures.is refl (l.invariant one lt)
 
 pub returns : goal.returns
 returns c v hu hv e =

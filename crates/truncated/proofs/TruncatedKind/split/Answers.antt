@@ -10,5 +10,5 @@ returns-then-v-self c ha =
 pub returns : goal.returns
 returns c ha =
     let k = c.args.self.now in
-    split_some k.base.value k.base.ok.0 k.depth k.ok.0 k.ok.1 c.args.a c.moved-down.result c.valuation-v.result
-    (omega (arith, c.valuation-v.ensures.within)) ha c.valuation-v.ensures c.moved-down.ensures
+    split_some k.base.value k.base.ok.0 k.depth k.ok.0 k.ok.1 c.args.a c.moved_down.result c.valuation-v.result
+    (omega (arith, c.valuation-v.ensures.within)) ha c.valuation-v.ensures c.moved_down.ensures

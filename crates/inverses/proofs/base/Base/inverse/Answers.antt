@@ -7,8 +7,8 @@ use Rattle.inverses.proofs.Bases.{listed_low}
 use Rattle.inverses.proofs.Rule.{table, entry, start_fits}
 use Rattle.inverses.proofs.base.Base.inverse.Goals as goal
 
-pub overflow-add-result : goal.overflow-add-result
-overflow-add-result c = omega (arith, start_fits c.args.self.value c.args.self.ok.0)
+pub overflow_add-result : goal.overflow_add-result
+overflow_add-result c = omega (arith, start_fits c.args.self.value c.args.self.ok.0)
 
 pub bounds-self : goal.bounds-self
 bounds-self c = omega (arith, start_fits c.args.self.value c.args.self.ok.0)

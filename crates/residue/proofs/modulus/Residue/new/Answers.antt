@@ -13,11 +13,11 @@ depth_high p d low le = at (dec_le d 31)
     at (yes k) = k
     at (no k) = absurd (omega (arith, pow-le-pow_left low d, power_up 2 (omega arith) 32 d (omega arith)))
 
-pub invariant-of-result : goal.invariant-of-result
-invariant-of-result c =
-    let b = c.in-ok-base.base in
+pub invariant_of-result : goal.invariant_of-result
+invariant_of-result c =
+    let b = c.in_ok-base.base in
     let d = c.args.d in
     let low = listed_low b.value b.ok.0 in
     let made = c.in-Some.ensures in
     let deep : 1 ≤ d = omega arith in
-    ((deep, depth_high b.value d low (omega arith), made.0, omega (arith, above_one b.value d low deep), made.1), tt)
+    record { ok = (deep, depth_high b.value d low (omega arith), made.0, omega (arith, above_one b.value d low deep), made.1) }
