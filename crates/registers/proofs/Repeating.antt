@@ -20,7 +20,7 @@ module _ {A : Type 0} (R : CommRing A) where
   infixl 60 ◌⊕◌
   infixl 70 ◌⊗◌
   infix 80 ⊖◌
-  open R use {𝟘, 𝟙, ◌⊕◌, ◌⊗◌, ⊖◌, add-zero as plus-zero}
+  open R use {𝟘, 𝟙, ◌⊕◌, ◌⊗◌, ⊖◌, add_zero as plus_zero}
 
   -- a list that comes back after m + 1 places is cancelled by y^(m + 1) - 1
   cyclic_cancels : (m : ℕ) (q w : ℕ → A) → q 0 ≡ ⊖ 𝟙 → ((j : ℕ) → j < m → q (suc j) ≡ 𝟘) → q (suc m) ≡ 𝟙 → ((t : ℕ) → w (t + suc m) ≡ w t)
@@ -36,7 +36,7 @@ module _ {A : Type 0} (R : CommRing A) where
           Sums.sum_front R m (λ j. q j ⊗ w (t + j))
           ∙ ap₂ ◌⊕◌ (ap₂ ◌⊗◌ first (ap w (add-zero t)) ∙ Sums.neg_mul R 𝟙 (w t) ∙ ap ⊖◌ (Sums.one_mul R (w t)))
           (Sums.sum_none R m _ (λ j b. ap (λ a. a ⊗ w (t + suc j)) (inner j b) ∙ Sums.zero_mul R (w (t + suc j))))
-          ∙ plus-zero (⊖ w t)
+          ∙ plus_zero (⊖ w t)
 
       back : q (suc m) ⊗ w (t + suc m) ≡ w t
       back = ap₂ ◌⊗◌ last (again t) ∙ Sums.one_mul R (w t)

@@ -16,23 +16,23 @@ extent-of R e d n deep h = subst (λ z. z * (e + 1) ≤ n) deep h
 work-of : {E : Type 0} (R : Ring E) (shape : Shape) (d w n : ℕ) → d ≡ R.depth → w ≡ (shape.count.words * shape.channels + 2 * d + 12) * (shape.count.words + shape.channels + 1) → w ≤ n → work_size R shape ≤ n
 work-of R shape d w n deep e h = subst (λ z. (shape.count.words * shape.channels + 2 * z + 12) * (shape.count.words + shape.channels + 1) ≤ n) deep (subst (λ z. z ≤ n) e h)
 
-pub all-lawful-requires : goal.all-lawful-requires
-all-lawful-requires g c = room_held c.args.shape _ (omega arith)
+pub all_lawful-requires : goal.all_lawful-requires
+all_lawful-requires g c = room_held c.args.shape _ (omega arith)
 
-pub returns-then-not-all-lawful : goal.returns-then-not-all-lawful
-returns-then-not-all-lawful g c =
+pub returns-then-not-all_lawful : goal.returns-then-not-all_lawful
+returns-then-not-all_lawful g c =
     let R = g.K.Kind.ring c.args.kind.now in
     let shape = c.args.shape in
     let deep = c.depth-depth.ensures.is in (
       inr (
         enough R shape c.args.words.now c.args.finding.now c.args.work.now (omega arith) (extent-of R shape.count.words _ _ deep (omega arith)) (work-of R shape _ _ _ deep c.work_size.ensures (omega arith)),
-        inl (words_foreign shape R c.args.words.now (c.all_lawful.ensures.no (λ t. subst T c.if-not-all-lawful.true t)), refl),
+        inl (words_foreign shape R c.args.words.now (c.all_lawful.ensures.no (λ t. subst T c.if-not-all_lawful.true t)), refl),
       ),
       (refl, refl, refl),
     )
 
-pub slice-bounds-solve-end : goal.slice-bounds-solve-end
-slice-bounds-solve-end g c =
+pub slice_bounds-solve-end : goal.slice_bounds-solve-end
+slice_bounds-solve-end g c =
     let shape = c.args.shape in
     let h : shape.count.words * shape.channels * (shape.count.words + 2) ≤ length c.args.work.now = omega (arith, store_within shape c.depth-depth.result) in
     h
@@ -42,7 +42,7 @@ solve-requires g c =
     let R = g.K.Kind.ring c.args.kind.now in
     let shape = c.args.shape in
     record {
-      held = record { room = omega arith; lawful = words_lawful shape R c.args.words.now (c.all_lawful.ensures.yes (subst T (sym c.if-not-all-lawful.false) tt)) };
+      held = record { room = omega arith; lawful = words_lawful shape R c.args.words.now (c.all_lawful.ensures.yes (subst T (sym c.if-not-all_lawful.false) tt)) };
       size = ap (λ z. z * (shape.count.words + 1)) (sym c.depth-depth.ensures.is) ∙ sym (front_long c.args.finding.now _ (omega arith));
       store_size = sym (front_long c.args.work.now _ (omega (arith, store_within shape c.depth-depth.result)));
     }
@@ -59,7 +59,7 @@ returns g c =
     let deep = c.depth-depth.ensures.is in
     let rows = c.depth-depth.result * (shape.count.words + 1) in
     let cells = shape.count.words * shape.channels * (shape.count.words + 2) in
-    let lawful = words_lawful shape R ws (c.all_lawful.ensures.yes (subst T (sym c.if-not-all-lawful.false) tt)) in
+    let lawful = words_lawful shape R ws (c.all_lawful.ensures.yes (subst T (sym c.if-not-all_lawful.false) tt)) in
     let long : length new ≡ rows = c.solve.auto.finding ∙ front_long fm rows (omega arith) in
     let fits : cells ≤ length work = omega (arith, store_within shape c.depth-depth.result) in (
       (enough R shape ws fm work (omega arith) (extent-of R shape.count.words _ _ deep (omega arith)) (work-of R shape _ _ _ deep c.work_size.ensures (omega arith)), (λ f. f lawful, tt)),

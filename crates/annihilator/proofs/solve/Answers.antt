@@ -7,14 +7,14 @@ use Rattle.levels.proofs.Rounds.{get_or_same, store_start, whole_start}
 use Rattle.annihilator.proofs.Findings.{solved}
 use Rattle.annihilator.proofs.solve.Goals as goal
 
-pub begin-levels-requires : goal.begin-levels-requires
-begin-levels-requires g c = ap (λ z. z * (c.args.shape.count.words + 1)) c.depth-depth.ensures.is ∙ c.requires.size
+pub begin_levels-requires : goal.begin_levels-requires
+begin_levels-requires g c = ap (λ z. z * (c.args.shape.count.words + 1)) c.depth-depth.ensures.is ∙ c.requires.size
 
-pub reduce-levels-requires : goal.reduce-levels-requires
-reduce-levels-requires g c = record { held = c.requires.held; small = omega arith; ready = c.loop-degree.invariant }
+pub reduce_levels-requires : goal.reduce_levels-requires
+reduce_levels-requires g c = record { held = c.requires.held; small = omega arith; ready = c.loop-degree.invariant }
 
-pub keep-levels-requires : goal.keep-levels-requires
-keep-levels-requires g c = record { held = c.requires.held; small = omega arith; kept = c.loop-degree.invariant.kept; whole = c.loop-degree.invariant.whole; reduced = c.reduce-levels.ensures }
+pub keep_levels-requires : goal.keep_levels-requires
+keep_levels-requires g c = record { held = c.requires.held; small = omega arith; kept = c.loop-degree.invariant.kept; whole = c.loop-degree.invariant.whole; reduced = c.reduce_levels.ensures }
 
 pub loop-degree-init : goal.loop-degree-init
 loop-degree-init g c =
@@ -26,20 +26,20 @@ loop-degree-init g c =
     record {
       tables = record {
         deep = c.depth-depth.ensures.is;
-        size = ap (λ z. z * (c.args.shape.count.words + 1)) c.depth-depth.ensures.is ∙ c.requires.size ∙ sym c.begin-levels.auto.finding;
+        size = ap (λ z. z * (c.args.shape.count.words + 1)) c.depth-depth.ensures.is ∙ c.requires.size ∙ sym c.begin_levels.auto.finding;
         room = ap length empty;
         place_room = refl;
         rest = λ i h. none i;
       };
       kept = store_start L shape ws c.clear.new.cells c.clear.ensures (c.requires.store_size ∙ sym c.clear.auto.cells);
       whole = whole_start L shape ws c.clear.new.cells;
-      before = λ i h. started L shape ws i _ _ _ (none i) (get_or_same 31 i 0) (c.begin-levels.ensures i h);
+      before = λ i h. started L shape ws i _ _ _ (none i) (get_or_same 31 i 0) (c.begin_levels.ensures i h);
     }
 
 pub loop-degree-preserved : goal.loop-degree-preserved
 loop-degree-preserved g c =
     let more : suc c.loop-degree.degree ≡ c.loop-degree.degree + 1 = omega arith in
-    subst (λ z. Ready (g.K.Kind.laws c.args.kind.now) c.args.shape c.args.words.now c.depth-depth.result c.keep-levels.new.finding c.reduce-levels.new.table.levels c.keep-levels.new.places z c.keep-levels.new.store) more c.keep-levels.ensures
+    subst (λ z. Ready (g.K.Kind.laws c.args.kind.now) c.args.shape c.args.words.now c.depth-depth.result c.keep_levels.new.finding c.reduce_levels.new.table.levels c.keep_levels.new.places z c.keep_levels.new.store) more c.keep_levels.ensures
 
 pub returns : goal.returns
 returns g c =

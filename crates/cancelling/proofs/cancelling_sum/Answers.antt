@@ -2,9 +2,9 @@ use Rattle.std.proofs.Common.{inl, inr, arith}
 use Rattle.cancelling.proofs.Rooms.{held_room}
 use Rattle.cancelling.proofs.cancelling_sum.Goals as goal
 
-pub sum-at-requires : goal.sum-at-requires
-sum-at-requires g c =
-    let passed = c.in-ok-read-words.ensures.0 in
+pub sum_at-requires : goal.sum_at-requires
+sum_at-requires g c =
+    let passed = c.in_ok-read_words.ensures.0 in
     record {
       taps = omega arith;
       held = omega (arith, c.if-k-shape.false, c.if-taps-shape.false);

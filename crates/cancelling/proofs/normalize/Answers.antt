@@ -6,14 +6,14 @@ use Rattle.cancelling.proofs.normalize.Goals as goal
 
 pub returns-then-m-eq0 : goal.returns-then-m-eq0
 returns-then-m-eq0 g c =
-    let lawful = c.if-not-all-lawful.ensures.yes tt in
+    let lawful = c.if-not-all_lawful.ensures.yes tt in
     let counted = c.coefficients-m.ensures.is lawful in
     (inr (lawful, inl ((λ j. counted.past j (omega (arith, c.if-m-eq0.true))), refl)), refl)
 
 pub scale-requires : goal.scale-requires
 scale-requires g c =
     let taps = c.args.taps.now in
-    let lawful = c.if-not-all-lawful.ensures.yes tt in
+    let lawful = c.if-not-all_lawful.ensures.yes tt in
     let low : c.coefficients-m.result ≤ length taps = c.coefficients-m.ensures.low in
     let here : T ((g.K.Kind.ring c.args.kind.now).lawful c.index-taps-m.result)
     = read_lawful (g.K.Kind.ring c.args.kind.now) taps (length taps) (c.coefficients-m.result - 1) _ (omega arith) lawful (omega (arith, low, c.if-m-eq0.false)) c.index-taps-m.is in
@@ -27,7 +27,7 @@ returns g c =
     let R = g.K.Kind.ring c.args.kind.now in
     let taps = c.args.taps.now in
     let m : ℕ = c.coefficients-m.result in
-    let lawful = c.if-not-all-lawful.ensures.yes tt in
+    let lawful = c.if-not-all_lawful.ensures.yes tt in
     let counted = c.coefficients-m.ensures.is lawful in
     let low : m ≤ length taps = c.coefficients-m.ensures.low in (
       (lawful, ((λ none. counted.last (m - 1) (omega (arith, c.if-m-eq0.false)) (none (m - 1))), tt)),

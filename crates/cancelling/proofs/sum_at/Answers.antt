@@ -6,8 +6,8 @@ use Rattle.cancelling.proofs.sum_at.Goals as goal
 pub loop-j-init : goal.loop-j-init
 loop-j-init g c = added_none (g.K.Kind.laws c.args.kind.now) _ _ c.zero-total.ensures
 
-pub offset-bounds-cells-at : goal.offset-bounds-cells-at
-offset-bounds-cells-at g c =
+pub offset_bounds-cells-at : goal.offset_bounds-cells-at
+offset_bounds-cells-at g c =
     let s = c.args.shape.now in
     omega (arith, c.requires.held, c.requires.room, place_inside s.count.words s.channels (c.args.k + c.loop-j.j) c.args.c (omega (arith, c.requires.held)) c.requires.channel)
 

@@ -9,8 +9,8 @@ use Rattle.judging.proofs.formed.Goals as goal
 pub loop-i-init : goal.loop-i-init
 loop-i-init g c = (power_none (g.K.Kind.laws c.args.kind.now) _ c.one-power.ensures, λ j b. absurd (omega arith))
 
-pub row-of-row-requires : goal.row-of-row-requires
-row-of-row-requires g c =
+pub row_of-row-requires : goal.row_of-row-requires
+row_of-row-requires g c =
     let R = g.K.Kind.ring c.args.kind.now in
     let hi : c.loop-i.i < R.depth = omega arith in
     record {
@@ -23,8 +23,8 @@ pub loop-i-preserved : goal.loop-i-preserved
 loop-i-preserved g c =
     let L = g.K.Kind.laws c.args.kind.now in
     let hi : c.loop-i.i < (g.K.Kind.ring c.args.kind.now).depth = omega arith in
-    let told = leads_told L c.args.shape.now.count.words c.args.table.now.levels c.args.finding.now c.row-of-row.result.now c.loop-i.i c.index-row-level.result c.loop-i.power true
-    c.requires.lawful hi c.if-level-shape.false c.row-of-row.ensures.is c.row-of-row.ensures.long c.index-row-level.is c.loop-i.invariant.0 c.if-not-equal.ensures in (
+    let told = leads_told L c.args.shape.now.count.words c.args.table.now.levels c.args.finding.now c.row_of-row.result.now c.loop-i.i c.index-row-level.result c.loop-i.power true
+    c.requires.lawful hi c.if-level-shape.false c.row_of-row.ensures.is c.row_of-row.ensures.long c.index-row-level.is c.loop-i.invariant.0 c.if-not-equal.ensures in (
       power_more L c.loop-i.i _ _ _ c.loop-i.invariant.0 c.step-step.ensures c.mul-power.ensures,
       below_more _ _ c.loop-i.invariant.1 (record { short = c.if-level-shape.false; marked = marked_true _ c.if-not-level.false; leads = told.0 tt }),
     )
@@ -32,8 +32,8 @@ loop-i-preserved g c =
 pub returns-then-not-equal : goal.returns-then-not-equal
 returns-then-not-equal g c =
     let hi : c.loop-i.i < (g.K.Kind.ring c.args.kind.now).depth = omega arith in
-    let told = leads_told (g.K.Kind.laws c.args.kind.now) c.args.shape.now.count.words c.args.table.now.levels c.args.finding.now c.row-of-row.result.now c.loop-i.i c.index-row-level.result c.loop-i.power false
-    c.requires.lawful hi c.if-level-shape.false c.row-of-row.ensures.is c.row-of-row.ensures.long c.index-row-level.is c.loop-i.invariant.0 c.if-not-equal.ensures in
+    let told = leads_told (g.K.Kind.laws c.args.kind.now) c.args.shape.now.count.words c.args.table.now.levels c.args.finding.now c.row_of-row.result.now c.loop-i.i c.index-row-level.result c.loop-i.power false
+    c.requires.lawful hi c.if-level-shape.false c.row_of-row.ensures.is c.row_of-row.ensures.long c.index-row-level.is c.loop-i.invariant.0 c.if-not-equal.ensures in
     untold (λ f. told.1 (f.leads c.loop-i.i hi))
 
 pub returns : goal.returns
