@@ -4,8 +4,8 @@ use Rattle.continuation.specs.Filling.{Filled}
 use Rattle.continuation.proofs.Turns.{filled_more}
 use Rattle.continuation.proofs.fill.Goals as goal
 
-pub next-word-x-requires : goal.next-word-x-requires
-next-word-x-requires g c =
+pub next_word-x-requires : goal.next_word-x-requires
+next_word-x-requires g c =
     let R = g.K.Kind.ring c.args.kind.now in
     let n : ℕ = c.args.shape.now.channels in
     let q : ℕ = c.loop-q.q in
@@ -21,7 +21,7 @@ next-word-x-requires g c =
 pub loop-q-preserved : goal.loop-q-preserved
 loop-q-preserved g c =
     filled_more (g.K.Kind.laws c.args.kind.now) c.args.shape.now c.args.cells.now c.args.degree (at (g.K.Kind.ring c.args.kind.now) c.args.row.now) c.requires.ready
-    c.loop-q.out c.loop-q.q c.next-word-x.result (omega arith) c.next-word-x.ensures c.loop-q.invariant
+    c.loop-q.out c.loop-q.q c.next_word-x.result (omega arith) c.next_word-x.ensures c.loop-q.invariant
 
 pub returns : goal.returns
 returns g c = λ j b. c.loop-q.invariant j (omega arith)
