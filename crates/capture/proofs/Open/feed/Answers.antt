@@ -15,7 +15,7 @@ returns g c =
     let s = c.args.self.now.shape in
     let word = c.args.word.now in
     let e : length word ≡ s.channels = omega arith in (
-      ((λ z. z e), ((λ z. omega arith), ((λ z. omega arith), (c.if-not-all-lawful.ensures.yes tt, tt)))),
+      ((λ z. z e), ((λ z. omega arith), ((λ z. omega arith), (c.if-not-all_lawful.ensures.yes tt, tt)))),
       (
         record { kind = refl; channels = refl; capacity = refl; count = refl },
         subst (λ (n : ℕ). Written c.args.words.now c.put.new.words (s.count.words * s.channels) n (at R word)) e (c.put.ensures R.zero),
