@@ -1,5 +1,5 @@
 -- The product of polynomials is commutative, associative and distributes, and x^i moves coefficients up by i.
-use Rattle.std.proofs.Common.{◌≡◌, ℕ, zero, suc, ◌+◌, ◌-◌, ◌<◌, ◌≤◌, ◌≢◌, sym, refl, ap, ◌∙◌, ap₂, arith}
+use Rattle.std.proofs.Common.{◌≡◌, ℕ, zero, suc, ◌-◌, ◌<◌, ◌≤◌, ◌≢◌, sym, refl, ap, ◌∙◌, ap₂, arith}
 use Rattle.ring.specs.Commutative.{CommRing, sum}
 use Rattle.ring.specs.Truncated.{product, monomial}
 use Rattle.ring.proofs.Sums as Sums

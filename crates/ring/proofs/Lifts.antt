@@ -1,7 +1,7 @@
 -- What the operations of a kind are among its lawful elements, and how a loop over memory is tied to a sum.
-use Rattle.std.proofs.Common.{◌≡◌, ℕ, zero, suc, ◌+◌, ◌*◌, ◌<◌, ◌≤◌, Bool, true, false, T, List, length, get_or, sym, refl, ap, ◌∙◌, subst, ap₂, arith}
+use Rattle.std.proofs.Common.{◌≡◌, ℕ, zero, suc, ◌<◌, ◌≤◌, Bool, true, false, T, List, length, get_or, sym, refl, ap, ◌∙◌, subst, ap₂, arith}
 use Rattle.std.proofs.lemmas.List.{get_or_read, get_or_past}
-use Rattle.ring.specs.Commutative.{CommRing, sum as sumˡ, power as powerˡ}
+use Rattle.ring.specs.Commutative.{sum as sumˡ, power as powerˡ}
 use Rattle.ring.specs.Ring.{Ring, Laws, sum, power}
 use Rattle.ring.specs.Lawful.{Lawful, Is, same, lifted, step_of, hold_at, hold, cells, AllLawful}
 use Rattle.ring.proofs.Sums as Sums

@@ -1,5 +1,5 @@
 -- A loop that adds up: what it holds after j turns, and one turn more, from what the calls of a kind ensure.
-use Rattle.std.proofs.Common.{◌≡◌, ℕ, zero, suc, ◌+◌, ◌*◌, ◌<◌, ◌≤◌, T, sym, ◌∙◌, subst, ap₂, mul-le-mul_right, suc-mul, add-one, arith}
+use Rattle.std.proofs.Common.{◌≡◌, ℕ, suc, ◌+◌, ◌*◌, ◌<◌, ◌≤◌, T, sym, ◌∙◌, subst, ap₂, mul-le-mul_right, suc-mul, add-one, arith}
 use Rattle.ring.specs.Ring.{Ring, Laws, sum}
 
 -- channel c of word k lies within e words of n channels

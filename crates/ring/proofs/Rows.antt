@@ -1,8 +1,8 @@
 -- Which row is the first that fits, from the tests one by one.
-use Rattle.std.proofs.Common.{◌≡◌, ℕ, zero, suc, ◌+◌, ◌<◌, Bool, false, T, ◌⊎◌, List, [], ◌∷◌, length, get_or, refl, subst, inl, inr, arith}
+use Rattle.std.proofs.Common.{◌≡◌, ℕ, zero, suc, ◌+◌, ◌<◌, Bool, false, T, List, [], ◌∷◌, length, get_or, refl, subst, inl, inr, arith}
 use native.Mathlib.Decide.{dec_lt}
 use Rattle.ring.specs.declared.Refusal.{Refusal}
-use Rattle.ring.specs.Refusals.{Row, number, Passes, Refuses, tests}
+use Rattle.ring.specs.Refusals.{Row, Passes, Refuses, tests}
 
 abbrev pub Unfit : Bool × Refusal → List (Bool × Refusal) → ℕ → Type 0
 Unfit z rows n = (j : ℕ) → j < n → T (get_or rows j z).0 → ⊥

@@ -1,9 +1,8 @@
 -- An element has one valuation only, and the units are what has valuation 0.
-use Rattle.std.proofs.Common.{◌≡◌, ℕ, zero, suc, ◌+◌, ◌-◌, ◌<◌, ◌≤◌, T, sym, refl, ap, ◌∙◌, subst, arith}
-use native.Mathlib.Decide.{dec_lt}
+use Rattle.std.proofs.Common.{◌≡◌, ℕ, ◌+◌, ◌-◌, ◌<◌, ◌≤◌, sym, ap, ◌∙◌, subst, arith}
 use Rattle.ring.specs.Commutative.{CommRing, power as powerˡ}
 use Rattle.ring.specs.Ring.{Ring, Laws, power, UnitOf, Split}
-use Rattle.ring.specs.Lawful.{Lawful, same, lifted, step_of}
+use Rattle.ring.specs.Lawful.{same, lifted, step_of}
 use Rattle.ring.proofs.Sums as Sums
 use Rattle.ring.proofs.Lifts as Lifts
 

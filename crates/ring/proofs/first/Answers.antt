@@ -1,4 +1,4 @@
-use Rattle.std.proofs.Common.{false, T, sym, subst, arith, rules}
+use Rattle.std.proofs.Common.{false, T, sym, subst, arith}
 use Rattle.ring.specs.declared.Refusal.TheVariants.{Base}
 use Rattle.ring.proofs.Rows.{passes, refuses, unfit_more}
 use Rattle.ring.proofs.first.Goals as goal
