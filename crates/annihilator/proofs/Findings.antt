@@ -1,5 +1,5 @@
 -- From the levels as the search leaves them to a finding of the words.
-use Rattle.std.proofs.Common.{◌≡◌, ℕ, suc, ◌+◌, ◌-◌, ◌*◌, ◌/◌, ◌%◌, ◌<◌, ◌≤◌, Bool, true, false, T, ◌⊎◌, List, ◌++◌, length, get_or, take, drop, sym, refl, ap, ◌∙◌, subst, ap₂, inl, inr, mod-lt, div-lt_iff_lt-mul, mul-le-mul, arith, get_or-drop, get_or-take}
+use Rattle.std.proofs.Common.{◌≡◌, ℕ, suc, ◌+◌, ◌-◌, ◌*◌, ◌/◌, ◌%◌, ◌<◌, ◌≤◌, Bool, true, false, T, ◌⊎◌, List, length, get_or, take, drop, sym, refl, ap, ◌∙◌, subst, inl, inr, mod-lt, div-lt_iff_lt-mul, mul-le-mul, arith, get_or-drop, get_or-take}
 use mathlib.Core.Path.{fun_ext}
 use native.Mathlib.Nat.{mod-add-div'}
 use native.Mathlib.Decide.{dec_lt}
@@ -8,7 +8,7 @@ use borrow.Rule.Slice.PartMut.{put_mid}
 use Rattle.std.proofs.lemmas.List.Edits.{length-between}
 use Rattle.std.proofs.lemmas.Slice.{between_is}
 use Rattle.ring.specs.Ring.{Ring, Laws, power}
-use Rattle.ring.specs.Lawful.{Lawful as Element, lifted, cells}
+use Rattle.ring.specs.Lawful.{Lawful as Element, cells}
 use Rattle.ring.proofs.Lifts as Lifts
 use Rattle.recurrence.specs.declared.shape.Shape.{Shape}
 use Rattle.recurrence.specs.declared.shape.Level.{Level}
@@ -24,7 +24,7 @@ use Rattle.places.proofs.Places.{wide, row_within}
 use Rattle.elimination.proofs.Parts.{part_none}
 use Rattle.recurrence.specs.Lent.{ShortWords, ShortFinding}
 use Rattle.annihilator.specs.Calls.{work_size}
-use Rattle.levels.specs.Levels.{row_of, Found, Before}
+use Rattle.levels.specs.Levels.{row_of, Found}
 use Rattle.levels.specs.Rounds.{Tables, AllBefore, Solved}
 use Rattle.levels.proofs.Turns.{part_row}
 

@@ -1,5 +1,5 @@
 -- The loops that multiply and divide bit polynomials, a coefficient a turn.
-use Rattle.std.proofs.Common.{◌≡◌, ℕ, zero, ◌+◌, ◌-◌, ◌*◌, ◌/◌, ◌%◌, ◌^◌, ◌<◌, ◌≤◌, Bool, true, false, T, ltb, sym, refl, ap, ◌∙◌, subst, ap₂, pow-suc, div-one, add-one, arith, ltb→lt}
+use Rattle.std.proofs.Common.{◌≡◌, ℕ, ◌+◌, ◌-◌, ◌*◌, ◌/◌, ◌%◌, ◌^◌, ◌<◌, ◌≤◌, Bool, true, false, T, ltb, sym, refl, ap, ◌∙◌, subst, ap₂, pow-suc, div-one, add-one, arith, ltb→lt}
 use native.Mathlib.Nat.{pow-zero, div-eq_of_lt, div-div-eq-div-mul}
 use lib.Bits.{bit_xor, bit_and}
 use Rattle.ring.specs.Commutative.{CommRing}

@@ -1,12 +1,11 @@
 -- A polynomial times the inverse of its leading coefficient's unit part leads with a power of the step alone.
-use Rattle.std.proofs.Common.{◌≡◌, ℕ, suc, ◌+◌, ◌-◌, ◌<◌, ◌≤◌, T, List, length, sym, refl, ap, ◌∙◌, subst, arith}
+use Rattle.std.proofs.Common.{◌≡◌, ℕ, ◌+◌, ◌-◌, ◌<◌, ◌≤◌, T, List, length, sym, ap, ◌∙◌, subst, arith}
 use native.Mathlib.Decide.{dec_lt}
 use Rattle.ring.specs.Ring.{Ring, Laws, power, Split, UnitOf}
 use Rattle.ring.specs.Commutative.{CommRing}
 use Rattle.ring.specs.Lawful.{Lawful, lifted, same}
-use Rattle.ring.proofs.Sums as Sums
 use Rattle.ring.proofs.Lifts as Lifts
-use Rattle.recurrence.specs.Memory.{at, Unlawful, Written}
+use Rattle.recurrence.specs.Memory.{at, Written}
 use Rattle.recurrence.specs.Reductions.{Coefficients}
 use Rattle.cancelling.specs.Trials.{Normal}
 

@@ -1,5 +1,5 @@
 -- The words that are held lie in memory that is long enough for the capacity.
-use Rattle.std.proofs.Common.{◌≡◌, ℕ, ◌*◌, ◌<◌, ◌≤◌, List, mul-le-mul_right, arith}
+use Rattle.std.proofs.Common.{ℕ, ◌*◌, ◌<◌, ◌≤◌, mul-le-mul_right, arith}
 use Rattle.recurrence.specs.declared.shape.Shape.{Shape}
 
 pub held_room : (s : Shape) (size : ℕ) → (size < s.capacity * s.channels → ⊥) → s.count.words * s.channels ≤ size

@@ -1,5 +1,5 @@
 -- From the sums at every place to the verdict of the whole polynomial, and back.
-use Rattle.std.proofs.Common.{◌≡◌, ℕ, zero, suc, ◌+◌, ◌<◌, ◌≤◌, ◌↔◌, List, sym, refl, ap, ◌∙◌, subst, arith}
+use Rattle.std.proofs.Common.{◌≡◌, ℕ, zero, suc, ◌+◌, ◌<◌, ◌≤◌, ◌↔◌, List, refl, subst, arith}
 use native.Mathlib.Decide.{dec_lt}
 use Rattle.ring.specs.Ring.{Ring, sum}
 use Rattle.recurrence.specs.declared.shape.Shape.{Shape}

@@ -1,8 +1,7 @@
 -- What holds of every history.
-use Rattle.std.proofs.Common.{◌≡◌, ℕ, zero, suc, ◌+◌, ◌-◌, ◌*◌, ◌<◌, ◌≤◌, Bool, true, false, cond, T, ltb, ◌≢◌, ◌⊎◌, List, [], ◌∷◌, ◌++◌, length, get_or, Some, None, Ok, Err, Option, Result, sym, refl, ap, ◌∙◌, subst, inl, inr, mul-one, arith, le-ltb, lt-ltb}
+use Rattle.std.proofs.Common.{◌≡◌, ℕ, zero, suc, ◌+◌, ◌-◌, ◌*◌, ◌<◌, ◌≤◌, Bool, cond, T, ltb, ◌≢◌, ◌⊎◌, List, [], ◌∷◌, ◌++◌, length, get_or, Some, None, Ok, Err, Option, sym, refl, ap, ◌∙◌, subst, inl, inr, mul-one, arith, le-ltb, lt-ltb}
 use native.Mathlib.Decide.{dec_lt}
 use Rattle.ring.specs.Ring.{Ring}
-use Rattle.ring.specs.declared.Refusal.{Refusal}
 use Rattle.recurrence.specs.declared.shape.Shape.{Shape}
 use Rattle.recurrence.specs.declared.shape.Level.{Level}
 use Rattle.recurrence.specs.Polynomials.{Lawful}
@@ -13,7 +12,7 @@ use Rattle.recurrence.specs.Lent.{ShortWords, ForeignWords, ShortFinding}
 use Rattle.capture.specs.declared.Open.{Open}
 use Rattle.capture.specs.declared.Found.{Found}
 use Rattle.capture.specs.Calls.{held, Holding, Fed, Drew, Finds}
-use Rattle.capture.specs.History.{Stand, stands_open, stands_found, kind_of, shape_of, answered, Meaning, History, opened, fed, drew, took_back, sought, reopened, profiled, draws, origin, item}
+use Rattle.capture.specs.History.{Stand, stands_open, stands_found, kind_of, shape_of, Meaning, History, opened, fed, drew, took_back, sought, reopened, profiled, draws, origin, item}
 
 pub some_injective : {A : Type 0} {x y : A} → Some x ≡ Some y → x ≡ y
 some_injective e = cc

@@ -1,5 +1,5 @@
 -- The promises, of every history that stands found.
-use Rattle.std.proofs.Common.{◌≡◌, ℕ, ◌+◌, ◌-◌, ◌*◌, ◌%◌, ◌<◌, ◌≤◌, T, List, length, Ok, Err, Result, sym, ap, ◌∙◌, subst, mul-one, arith}
+use Rattle.std.proofs.Common.{◌≡◌, ℕ, ◌+◌, ◌-◌, ◌*◌, ◌%◌, ◌<◌, List, length, Ok, Err, Result, sym, ap, ◌∙◌, subst, mul-one, arith}
 use native.Mathlib.Nat.{mod-one}
 use native.Mathlib.Decide.{dec_lt}
 use Rattle.ring.specs.Ring.{Ring, Laws}

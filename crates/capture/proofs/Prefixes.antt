@@ -1,12 +1,12 @@
 -- The first j words of a capture: a find of them asks for no more memory, and tells their length at level 0.
-use Rattle.std.proofs.Common.{◌≡◌, ℕ, ◌+◌, ◌*◌, ◌<◌, ◌≤◌, ◌≢◌, ◌⊎◌, List, length, get_or, set, Ok, Result, sym, refl, ◌∙◌, subst, inl, inr, mul-le-mul_right, mul-le-mul, mul-le-mul_left, arith, length-set, get_or-set_other, get_or-set_same}
+use Rattle.std.proofs.Common.{◌≡◌, ℕ, ◌+◌, ◌*◌, ◌<◌, ◌≤◌, ◌≢◌, ◌⊎◌, List, length, get_or, set, Ok, Result, sym, ◌∙◌, subst, inl, inr, mul-le-mul_right, mul-le-mul, mul-le-mul_left, arith, length-set, get_or-set_other, get_or-set_same}
 use native.Mathlib.Decide.{dec_lt}
 use Rattle.ring.specs.Ring.{Ring, Laws}
 use Rattle.ring.specs.declared.Refusal.{Refusal}
 use Rattle.ring.specs.Refusals.{Passes, Refuses}
 use Rattle.recurrence.specs.declared.shape.Shape.{Shape}
 use Rattle.recurrence.specs.declared.shape.Level.{Level}
-use Rattle.recurrence.specs.Words.{words, LawfulWords, Length}
+use Rattle.recurrence.specs.Words.{words, Length}
 use Rattle.recurrence.specs.Findings.{long, extent, Finding}
 use Rattle.recurrence.proofs.Findings.{rows_shortest}
 use Rattle.recurrence.specs.Lent.{ShortWords, ForeignWords, ShortFinding}

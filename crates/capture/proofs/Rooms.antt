@@ -1,5 +1,5 @@
 -- Memory that has room for the capacity has room for the words.
-use Rattle.std.proofs.Common.{◌≡◌, ℕ, suc, ◌+◌, ◌*◌, ◌<◌, ◌≤◌, mul-le-mul_right, suc-mul, arith}
+use Rattle.std.proofs.Common.{ℕ, suc, ◌+◌, ◌*◌, ◌<◌, ◌≤◌, mul-le-mul_right, suc-mul, arith}
 
 -- one word more has room
 pub room : (count capacity n size : ℕ) → count < capacity → capacity * n ≤ size → count * n + n ≤ size

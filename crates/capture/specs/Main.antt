@@ -1,5 +1,5 @@
 -- What a finding promises, whatever calls led to it.
-use Rattle.std.specs.Prelude.{◌≡◌, ℕ, ◌+◌, ◌*◌, ◌<◌, ◌≤◌, ◌↔◌, List, length, Ok, Err, Result}
+use Rattle.std.specs.Prelude.{◌≡◌, ℕ, ◌+◌, ◌*◌, ◌<◌, ◌≤◌, ◌↔◌, List, length, Ok, Result}
 use Rattle.ring.specs.Ring.{Ring}
 use Rattle.ring.specs.declared.Refusal.{Refusal}
 use Rattle.recurrence.specs.declared.shape.Shape.{Shape}

@@ -1,5 +1,5 @@
 -- The job as a history: open, a feed, a take back, a draw, a refused take back, find, reopen, find.
-use Rattle.std.proofs.Common.{◌≡◌, ℕ, ◌+◌, ◌-◌, ◌*◌, ◌<◌, ◌≤◌, cond, List, length, Some, None, Ok, Err, Result, sym, refl, ap, ◌∙◌, subst, arith, le-ltb}
+use Rattle.std.proofs.Common.{◌≡◌, ℕ, ◌+◌, ◌*◌, ◌≤◌, cond, List, Some, Ok, Err, Result, sym, refl, ap, ◌∙◌, subst, arith, le-ltb}
 use Rattle.ring.specs.Ring.{Ring}
 use Rattle.ring.specs.declared.Refusal.{Refusal}
 use Rattle.recurrence.specs.declared.shape.Shape.{Shape}
@@ -8,9 +8,9 @@ use Rattle.recurrence.specs.Memory.{at}
 use Rattle.recurrence.specs.Polynomials.{Obeys}
 use Rattle.capture.specs.declared.Open.{Open}
 use Rattle.capture.specs.declared.Found.{Found}
-use Rattle.capture.specs.Calls.{held, Opened, TookBack, Reopened, Fed, Drew, Finds}
-use Rattle.capture.specs.History.{Stand, stands_open, stands_found, Meaning, History, opened, fed, drew, took_back, sought, reopened, draws, origin, OneDraw}
-use Rattle.capture.specs.Main.{Behind, Filled, Find, RunOn}
+use Rattle.capture.specs.Calls.{held, Opened, TookBack, Reopened, Fed, Drew}
+use Rattle.capture.specs.History.{stands_open, stands_found, History, opened, fed, drew, took_back, sought, reopened, draws, origin, OneDraw}
+use Rattle.capture.specs.Main.{Behind, Find, RunOn}
 use Rattle.client.specs.Job.{Foreseen}
 
 module _ {K E S : Type 0} (ring : K → Ring E) (kind_of : S → K) (list : S → ℕ → E)

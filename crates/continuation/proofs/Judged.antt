@@ -1,5 +1,5 @@
 -- What the words held and the finding are when they are refused, and when they are not.
-use Rattle.std.proofs.Common.{◌≡◌, ℕ, ◌+◌, ◌*◌, ◌/◌, ◌%◌, ◌<◌, ◌≤◌, Bool, T, ◌⊎◌, List, [], length, take, drop, ap, ◌∙◌, subst, inl, inr, ⊎_elim, arith}
+use Rattle.std.proofs.Common.{◌≡◌, ℕ, ◌+◌, ◌*◌, ◌%◌, ◌<◌, ◌≤◌, Bool, T, ◌⊎◌, List, [], length, take, drop, ap, ◌∙◌, inl, inr, ⊎_elim, arith}
 use Rattle.ring.specs.Ring.{Ring, Laws}
 use Rattle.ring.specs.declared.Refusal.{Refusal}
 use Rattle.ring.specs.Refusals.{Passes, Refuses}
@@ -7,7 +7,7 @@ use Rattle.ring.proofs.Loops.{lawful_at, place_inside}
 use Rattle.recurrence.specs.declared.shape.Shape.{Shape}
 use Rattle.recurrence.specs.declared.shape.Level.{Level}
 use Rattle.recurrence.specs.Memory.{at, Unlawful}
-use Rattle.recurrence.specs.Words.{place, words, LawfulWords, run}
+use Rattle.recurrence.specs.Words.{words, run}
 use Rattle.recurrence.specs.Findings.{long, Formed, run_of}
 use Rattle.memory.proofs.Held.{room_held, words_lawful, words_foreign}
 use Rattle.recurrence.specs.Lent.{ShortWords, ForeignWords, ShortFinding, ForeignFinding}

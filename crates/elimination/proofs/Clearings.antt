@@ -1,9 +1,8 @@
 -- A polynomial less the multiple of what is kept for its first place that is not zero.
-use Rattle.std.proofs.Common.{◌≡◌, ℕ, suc, ◌+◌, ◌-◌, ◌*◌, ◌<◌, ◌≤◌, List, length, get_or, take, drop, sym, refl, ap, ◌∙◌, subst, ap₂, arith}
+use Rattle.std.proofs.Common.{◌≡◌, ℕ, suc, ◌+◌, ◌-◌, ◌*◌, ◌<◌, ◌≤◌, List, length, get_or, take, drop, sym, ap, ◌∙◌, subst, ap₂, arith}
 use mathlib.Core.Path.{fun_ext}
 use native.Mathlib.Decide.{dec_lt}
 use Rattle.ring.specs.Ring.{Ring, Laws}
-use Rattle.ring.specs.Commutative.{CommRing}
 use Rattle.ring.specs.Lawful.{Lawful, Is, lifted, hold, cells, AllLawful, level_of}
 use Rattle.ring.proofs.Sums as Sums
 use Rattle.ring.proofs.Lifts as Lifts

@@ -1,5 +1,5 @@
 -- A polynomial that is kept for a place.
-use Rattle.std.proofs.Common.{◌≡◌, ℕ, suc, ◌+◌, ◌-◌, ◌*◌, ◌<◌, ◌≤◌, T, ◌≢◌, List, length, get_or, set, sym, refl, ap, ◌∙◌, subst, ap₂, arith, length-set, get_or-set_other, get_or-set_same}
+use Rattle.std.proofs.Common.{◌≡◌, ℕ, suc, ◌+◌, ◌-◌, ◌*◌, ◌<◌, ◌≤◌, T, ◌≢◌, List, length, get_or, set, sym, ap, ◌∙◌, subst, arith, length-set, get_or-set_other, get_or-set_same}
 use native.Mathlib.Decide.{dec_lt, ℕ_discrete}
 use borrow.Rule.Slice.PartMut.{put_mid, same_len_mid}
 use Rattle.std.proofs.lemmas.List.Edits.{length-between}
@@ -7,10 +7,10 @@ use Rattle.ring.specs.Ring.{Ring, Laws}
 use Rattle.ring.specs.Lawful.{Lawful, Is, cells, AllLawful, level_of}
 use Rattle.ring.proofs.Lifts as Lifts
 use Rattle.recurrence.specs.declared.shape.Shape.{Shape}
-use Rattle.recurrence.proofs.Captures.{Capture, value, Zeros}
+use Rattle.recurrence.proofs.Captures.{Capture, value}
 use Rattle.recurrence.proofs.Valuations as Val
-use Rattle.places.specs.Places.{places, capture_of, Row}
-use Rattle.elimination.specs.Stores.{Kept, Store, kept_row, kept_value, kept_level, ToKeep, KeptOne}
+use Rattle.places.specs.Places.{capture_of}
+use Rattle.elimination.specs.Stores.{Kept, kept_row, kept_value, kept_level, ToKeep, KeptOne}
 use Rattle.places.proofs.Places.{wide, counts_place, apart}
 use Rattle.elimination.proofs.Parts.{put_below, put_at, put_above, parts_same, part_is_list, put_lawful}
 

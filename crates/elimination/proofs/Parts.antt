@@ -1,11 +1,11 @@
 -- Parts of memory, and memory with a part written.
-use Rattle.std.proofs.Common.{◌≡◌, ℕ, ◌+◌, ◌-◌, ◌*◌, ◌<◌, ◌≤◌, T, List, ◌++◌, length, get_or, take, drop, sym, refl, ap, ◌∙◌, subst, ap₂, arith, length-take, length-take-le, get_or-drop, get_or-take}
+use Rattle.std.proofs.Common.{◌≡◌, ℕ, ◌+◌, ◌-◌, ◌<◌, ◌≤◌, T, List, ◌++◌, length, get_or, take, drop, sym, ap, ◌∙◌, subst, arith, length-take, length-take-le, get_or-drop, get_or-take}
 use mathlib.Core.Path.{fun_ext}
 use native.Mathlib.Decide.{dec_lt}
 use borrow.Rule.Slice.PartMut.{put_mid}
 use Rattle.std.proofs.lemmas.List.{get_or_past, get_or_append_left, get_or-append_right}
 use Rattle.ring.specs.Ring.{Ring, Laws}
-use Rattle.ring.specs.Lawful.{Lawful, lifted, cells, AllLawful}
+use Rattle.ring.specs.Lawful.{lifted, cells, AllLawful}
 use Rattle.ring.proofs.Lifts as Lifts
 
 module _ {X : Type 0} (xs ys : List X) (a k : ℕ) (same : length ys ≡ k) (room : a + k ≤ length xs) where

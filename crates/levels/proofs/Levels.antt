@@ -1,24 +1,23 @@
 -- What a round does to one level.
-use Rattle.std.proofs.Common.{◌≡◌, ℕ, zero, suc, ◌+◌, ◌-◌, ◌*◌, ◌<◌, ◌≤◌, Bool, true, false, T, eqb, List, length, get_or, sym, refl, ap, ◌∙◌, subst, arith, eqb-true}
+use Rattle.std.proofs.Common.{◌≡◌, ℕ, zero, suc, ◌+◌, ◌-◌, ◌*◌, ◌<◌, ◌≤◌, Bool, true, false, T, eqb, List, length, sym, refl, ap, ◌∙◌, subst, arith, eqb-true}
 use mathlib.Core.Path.{fun_ext}
 use native.Mathlib.Decide.{dec_lt, ℕ_discrete}
 use borrow.Author.Tests.{eqb-false}
 use Rattle.ring.specs.Ring.{Ring, Laws}
-use Rattle.ring.specs.Lawful.{Lawful, lifted, cells, AllLawful}
+use Rattle.ring.specs.Lawful.{Lawful, lifted, cells}
 use Rattle.recurrence.specs.declared.shape.Shape.{Shape}
 use Rattle.recurrence.specs.declared.shape.Level.{Level}
 use Rattle.recurrence.specs.Findings.{blank}
 use Rattle.recurrence.proofs.Polynomials.{shift}
 use Rattle.recurrence.proofs.Captures.{Capture, Monic, value, Counts, Zeros, First}
-use Rattle.recurrence.proofs.Complete.{NoneBelow}
 use Rattle.recurrence.proofs.Completes as Completes
-use Rattle.places.specs.Places.{places, capture_of, Held, Row}
+use Rattle.places.specs.Places.{places, capture_of, Held}
 use Rattle.rows.specs.Rows.{Holds, constant}
-use Rattle.elimination.specs.Stores.{Store, kept_level, kept_value, StuckAt, ToEliminate, Eliminated, ToKeep}
+use Rattle.elimination.specs.Stores.{Store, kept_level, kept_value, ToEliminate, Eliminated, ToKeep}
 use Rattle.places.proofs.Places.{row_next, counts_place, place_counts}
 use Rattle.places.proofs.Values.{chain, valued_level}
 use Rattle.rows.proofs.Scalings.{holds_cells, holds_lawful}
-use Rattle.levels.specs.Levels.{Found, Open, Stopped, Before, After, Less, Served}
+use Rattle.levels.specs.Levels.{Open, Stopped, Before, After, Less}
 use Rattle.levels.specs.Rounds.{Whole}
 use Rattle.levels.proofs.Shifts as Shifts
 

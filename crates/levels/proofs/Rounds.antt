@@ -1,5 +1,5 @@
 -- The store stays complete over a whole round.
-use Rattle.std.proofs.Common.{◌≡◌, ℕ, suc, ◌+◌, ◌-◌, ◌*◌, ◌<◌, ◌≤◌, Bool, true, false, ◌≢◌, ◌⊎◌, List, length, get_or, set, replicate, sym, refl, ◌∙◌, subst, inl, inr, arith, length-set}
+use Rattle.std.proofs.Common.{◌≡◌, ℕ, suc, ◌+◌, ◌-◌, ◌*◌, ◌<◌, ◌≤◌, Bool, true, false, ◌≢◌, List, length, get_or, set, replicate, sym, refl, ◌∙◌, subst, inl, inr, arith, length-set}
 use native.Mathlib.Decide.{dec_lt}
 use Rattle.std.proofs.lemmas.List.{get_or-replicate, length-replicate, get_or_past}
 use Rattle.ring.specs.Ring.{Ring, Laws}
@@ -14,7 +14,7 @@ use Rattle.recurrence.proofs.Completes as Completes
 use Rattle.recurrence.proofs.Valuations as Val
 use Rattle.places.specs.Places.{capture_of}
 use Rattle.rows.specs.Rows.{Clear}
-use Rattle.elimination.specs.Stores.{Store, kept_level, kept_value, kept_row, Grown}
+use Rattle.elimination.specs.Stores.{Store, kept_level, kept_row, Grown}
 use Rattle.places.proofs.Places.{counts_place}
 use Rattle.places.proofs.Values.{chain, valued_level}
 use Rattle.rows.proofs.Scalings.{clear_lawful, clear_cell}

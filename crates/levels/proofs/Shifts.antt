@@ -1,7 +1,6 @@
 -- Multiples of y: y^k p has at a place the value that p has k words later.
-use Rattle.std.proofs.Common.{◌≡◌, ℕ, suc, ◌+◌, ◌-◌, ◌*◌, ◌/◌, ◌%◌, ◌<◌, ◌≤◌, sym, ◌∙◌, ap₂, arith}
+use Rattle.std.proofs.Common.{◌≡◌, ℕ, suc, ◌+◌, ◌-◌, ◌*◌, ◌/◌, ◌%◌, ◌≤◌, sym, ◌∙◌, ap₂, arith}
 use native.Mathlib.Nat.{add-mul-div_right, add-mul-mod_self_right}
-use Rattle.ring.specs.Commutative.{CommRing}
 use Rattle.recurrence.proofs.Polynomials.{shift, act}
 use Rattle.recurrence.proofs.Captures.{Capture, Chain, Below, Monic, value, Counts, Zeros, Cancels}
 use Rattle.recurrence.proofs.Recurrences as Rec

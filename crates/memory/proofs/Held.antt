@@ -1,5 +1,5 @@
 -- The words that a capture holds in memory that is lent: where they lie, and whether they are lawful.
-use Rattle.std.proofs.Common.{◌≡◌, ℕ, ◌+◌, ◌*◌, ◌/◌, ◌%◌, ◌<◌, ◌≤◌, T, List, subst, mul-le-mul_right, mod-lt, div-lt_iff_lt-mul, div-add-mod', arith}
+use Rattle.std.proofs.Common.{ℕ, ◌*◌, ◌/◌, ◌%◌, ◌<◌, ◌≤◌, T, List, subst, mul-le-mul_right, mod-lt, div-lt_iff_lt-mul, div-add-mod', arith}
 use Rattle.ring.specs.Ring.{Ring}
 use Rattle.ring.proofs.Loops.{place_inside}
 use Rattle.recurrence.specs.declared.shape.Shape.{Shape}

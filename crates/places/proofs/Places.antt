@@ -1,7 +1,6 @@
 -- Places of a capture as numbers.
-use Rattle.std.proofs.Common.{◌≡◌, ℕ, suc, ◌+◌, ◌-◌, ◌*◌, ◌/◌, ◌%◌, ◌<◌, ◌≤◌, sym, refl, ap, ◌∙◌, subst, ap₂, mul-le-mul_right, mod-lt, div-lt_iff_lt-mul, add-mul, arith}
+use Rattle.std.proofs.Common.{◌≡◌, ℕ, ◌+◌, ◌-◌, ◌*◌, ◌/◌, ◌%◌, ◌<◌, ◌≤◌, ap, mul-le-mul_right, mod-lt, div-lt_iff_lt-mul, add-mul, arith}
 use native.Mathlib.Nat.{mod-add-div'}
-use native.Mathlib.Decide.{dec_lt}
 use Rattle.recurrence.specs.declared.shape.Shape.{Shape}
 use Rattle.recurrence.specs.Words.{place}
 use Rattle.places.specs.Places.{places}

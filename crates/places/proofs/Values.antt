@@ -1,19 +1,18 @@
 -- The value of a polynomial at a place, as the code sums it.
-use Rattle.std.proofs.Common.{◌≡◌, ℕ, suc, ◌+◌, ◌-◌, ◌*◌, ◌/◌, ◌%◌, ◌<◌, ◌≤◌, T, ◌≢◌, List, length, get_or, sym, refl, ap, ◌∙◌, subst, ap₂, add-one, arith}
+use Rattle.std.proofs.Common.{◌≡◌, ℕ, suc, ◌+◌, ◌*◌, ◌/◌, ◌%◌, ◌<◌, ◌≤◌, T, ◌≢◌, List, get_or, refl, ap, ◌∙◌, ap₂, add-one, arith}
 use native.Mathlib.Nat.{add-mul-div_right, add-mul-mod_self_right}
 use native.Mathlib.Decide.{dec_lt}
 use Rattle.ring.specs.Ring.{Ring, Laws, Split}
-use Rattle.ring.specs.Commutative.{CommRing, sum}
-use Rattle.ring.specs.Lawful.{Lawful, Is, lifted, hold, cells, AllLawful, level_of}
+use Rattle.ring.specs.Lawful.{Lawful, Is, lifted, hold, cells, level_of}
 use Rattle.ring.proofs.Lifts as Lifts
 use Rattle.recurrence.specs.declared.shape.Shape.{Shape}
 use Rattle.recurrence.proofs.Polynomials.{act}
-use Rattle.recurrence.proofs.Captures.{Capture, Chain, Below, value, Counts, Zeros, Valued}
+use Rattle.recurrence.proofs.Captures.{Capture, Chain, Below, value, Zeros, Valued}
 use Rattle.recurrence.proofs.Lift.{valued_of, chain_of}
 use Rattle.recurrence.proofs.Recurrences as Rec
 use Rattle.recurrence.proofs.Valuations as Val
 use Rattle.recurrence.specs.Words.{place, words}
-use Rattle.places.specs.Places.{places, capture_of, Held, Row, Scanned}
+use Rattle.places.specs.Places.{places, capture_of, Held, Row}
 use Rattle.places.proofs.Places.{wide, word_below, channel_below, place_within}
 
 module _ {E : Type 0} {R : Ring E} (L : Laws R) (shape : Shape) (ws : List E) where

@@ -1,15 +1,14 @@
 -- A register as it is made: it begins with its first elements and obeys its polynomial, or has zeros.
-use Rattle.std.proofs.Common.{◌≡◌, ℕ, suc, ◌+◌, ◌-◌, ◌<◌, ◌≤◌, Bool, T, ◌≢◌, ◌⊎◌, ◌↔◌, List, [], ◌∷◌, length, get_or, take, sym, refl, ap, ◌∙◌, subst, inl, inr, ⊎_elim, arith, length-take, length-take-le, get_or-take}
+use Rattle.std.proofs.Common.{◌≡◌, ℕ, ◌<◌, Bool, T, ◌≢◌, ◌↔◌, List, [], ◌∷◌, length, take, sym, refl, ap, ◌∙◌, subst, inl, inr, ⊎_elim, arith, length-take-le, get_or-take}
 use lib.ListN.{get_or-eq_default}
 use Rattle.ring.specs.declared.Refusal.{Refusal}
 use Rattle.ring.specs.Refusals.{Row, Passes, Refuses}
 use Rattle.ring.specs.Ring.{Ring, Laws}
-use Rattle.ring.specs.Commutative.{CommRing}
 use Rattle.ring.specs.Lawful.{Lawful as Element, Is, lifted, hold, cells}
 use Rattle.ring.proofs.Lifts as Lifts
 use Rattle.ring.proofs.Sums as Sums
 use Rattle.memory.proofs.Elements.{lawful_below, lawful_all}
-use Rattle.recurrence.specs.Memory.{at, Unlawful}
+use Rattle.recurrence.specs.Memory.{at}
 use Rattle.recurrence.specs.Polynomials.{Lawful, Obeys}
 use Rattle.recurrence.proofs.Polynomials.{run, Obeys as Obeysˡ}
 use Rattle.recurrence.proofs.Recurrences as Rec

@@ -1,12 +1,11 @@
 -- The list of a loop.
-use Rattle.std.proofs.Common.{◌≡◌, ℕ, zero, suc, ◌+◌, ◌-◌, ◌%◌, ◌<◌, ◌≤◌, min, Bool, true, false, cond, T, eqb, List, length, get_or, take, sym, refl, ap, ◌∙◌, subst, ap₂, add-zero, mod-eq_of_lt, zero-add, add-one, arith, take_all, eq-eqb, ne_eqb}
+use Rattle.std.proofs.Common.{◌≡◌, ℕ, zero, suc, ◌+◌, ◌%◌, ◌<◌, Bool, true, false, cond, T, eqb, List, length, get_or, take, sym, refl, ap, ◌∙◌, subst, ap₂, add-zero, zero-add, arith, take_all, eq-eqb, ne_eqb}
 use native.Mathlib.Nat.{mod-add-mod, add-mod_right}
-use native.Mathlib.Decide.{dec_lt}
 use Rattle.ring.specs.declared.Refusal.{Refusal}
 use Rattle.ring.specs.Refusals.{Passes, Refuses}
 use Rattle.ring.specs.Ring.{Ring, Laws}
 use Rattle.ring.specs.Commutative.{CommRing, sum}
-use Rattle.ring.specs.Lawful.{Lawful as Element, Is, lifted, hold, cells}
+use Rattle.ring.specs.Lawful.{Lawful as Element, lifted, hold, cells}
 use Rattle.ring.proofs.Lifts as Lifts
 use Rattle.ring.proofs.Sums as Sums
 use Rattle.memory.proofs.Elements.{lawful_all}

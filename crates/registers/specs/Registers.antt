@@ -4,7 +4,7 @@ use Rattle.ring.specs.declared.Refusal.{Refusal}
 use Rattle.ring.specs.declared.Refusal.TheVariants.{Short, Foreign, Stages, Span}
 use Rattle.ring.specs.Refusals.{Row, Passes, Refuses}
 use Rattle.ring.specs.Ring.{Ring, Laws}
-use Rattle.ring.specs.Commutative.{CommRing, sum}
+use Rattle.ring.specs.Commutative.{sum}
 use Rattle.ring.specs.Lawful.{Lawful, lifted, cells}
 use Rattle.recurrence.specs.Memory.{at, Unlawful}
 use Rattle.recurrence.specs.Polynomials.{Obeys}

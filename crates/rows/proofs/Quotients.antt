@@ -1,5 +1,5 @@
 -- Division in a chain ring.
-use Rattle.std.proofs.Common.{◌≡◌, ℕ, ◌+◌, ◌-◌, ◌<◌, ◌≤◌, T, sym, refl, ap, ◌∙◌, subst, ap₂, add-one, arith}
+use Rattle.std.proofs.Common.{◌≡◌, ℕ, ◌+◌, ◌-◌, ◌≤◌, T, sym, ap, ◌∙◌, subst, add-one, arith}
 use Rattle.ring.specs.Ring.{Ring, Laws, Split}
 use Rattle.ring.specs.Commutative.{power}
 use Rattle.ring.specs.Lawful.{Lawful, Is, lifted, step_of, hold, level_of}

@@ -1,9 +1,9 @@
 -- Rows that are written: one less a multiple of another, one begun, one moved up.
-use Rattle.std.proofs.Common.{◌≡◌, ℕ, zero, suc, ◌+◌, ◌-◌, ◌<◌, ◌≤◌, T, ◌≢◌, List, length, get_or, set, sym, refl, ap, ◌∙◌, subst, ap₂, arith, get_or-set_other, get_or-set_same, below_more}
+use Rattle.std.proofs.Common.{◌≡◌, ℕ, zero, suc, ◌+◌, ◌-◌, ◌<◌, ◌≤◌, T, ◌≢◌, List, length, get_or, set, sym, ap, ◌∙◌, subst, arith, get_or-set_other, get_or-set_same, below_more}
 use native.Mathlib.Decide.{dec_lt}
 use Rattle.std.proofs.lemmas.List.{get_or_read, get_or_past}
 use Rattle.ring.specs.Ring.{Ring, Laws}
-use Rattle.ring.specs.Commutative.{CommRing, power}
+use Rattle.ring.specs.Commutative.{power}
 use Rattle.ring.specs.Lawful.{Lawful, Is, lifted, step_of, hold, cells, AllLawful}
 use Rattle.ring.proofs.Sums as Sums
 use Rattle.ring.proofs.Lifts as Lifts

@@ -1,5 +1,5 @@
 -- A draw that fills a buffer is not refused.
-use Rattle.std.proofs.Common.{◌≡◌, ℕ, ◌+◌, ◌<◌, ◌≤◌, List, length, get_or, Ok, Err, Result, sym, ap, ◌∙◌, ap₂, ⊎_elim, zero-add, arith}
+use Rattle.std.proofs.Common.{◌≡◌, ℕ, ◌<◌, List, get_or, Ok, Err, Result, sym, ap, ◌∙◌, ap₂, ⊎_elim, zero-add, arith}
 use Rattle.ring.specs.declared.Refusal.{Refusal}
 use Rattle.ring.specs.Refusals.{Call}
 use Rattle.ring.specs.Ring.{Ring}

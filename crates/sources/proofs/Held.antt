@@ -1,5 +1,5 @@
 -- The lists of sums and scalings: lawful, and as the makers say.
-use Rattle.std.proofs.Common.{◌≡◌, ℕ, Bool, true, false, cond, T, sym, refl, ap, ◌∙◌, subst, ⊎_elim}
+use Rattle.std.proofs.Common.{◌≡◌, ℕ, Bool, true, false, T, sym, refl, ap, ◌∙◌, subst, ⊎_elim}
 use Rattle.ring.specs.Ring.{Ring, Laws}
 use Rattle.ring.specs.Lawful.{Lawful, Is, lifted, hold_at, hold}
 use Rattle.ring.proofs.Lifts.{hold_is, mul_is, zero_is}

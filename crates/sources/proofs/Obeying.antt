@@ -1,5 +1,5 @@
 -- What sums and scalings of lists obey.
-use Rattle.std.proofs.Common.{◌≡◌, ℕ, suc, ◌+◌, ◌*◌, Bool, true, false, T, sym, refl, ap, ◌∙◌, subst}
+use Rattle.std.proofs.Common.{◌≡◌, ℕ, suc, ◌+◌, Bool, true, false, T, sym, refl, ap, ◌∙◌, subst}
 use Rattle.ring.specs.Ring.{Ring, Laws}
 use Rattle.ring.specs.Lawful.{Lawful as Element, Is, lifted, hold}
 use Rattle.ring.proofs.Lifts as Lifts

@@ -1,5 +1,5 @@
 -- The values of a delay line as its cells turn round.
-use Rattle.std.proofs.Common.{◌≡◌, ℕ, zero, suc, ◌+◌, ◌-◌, ◌<◌, ◌≤◌, min, List, [], ◌∷◌, ◌++◌, length, get_or, take, drop, set, sym, refl, ap, ◌∙◌, append_assoc, append-nil, add-one, arith, drop_of_length-le, length-take, take_all, drop-cons, get_or-take, take-take, take-suc-set, drop-set-lt}
+use Rattle.std.proofs.Common.{◌≡◌, ℕ, suc, ◌+◌, ◌-◌, ◌<◌, ◌≤◌, min, List, [], ◌∷◌, ◌++◌, length, get_or, take, drop, set, sym, ap, ◌∙◌, append_assoc, append-nil, add-one, arith, drop_of_length-le, length-take, take_all, drop-cons, get_or-take, take-take, take-suc-set, drop-set-lt}
 use native.Mathlib.Decide.{dec_lt}
 use lib.Seq.{take-set-lt, take-nil, drop-nil}
 use Rattle.std.proofs.lemmas.List.{drop-take}

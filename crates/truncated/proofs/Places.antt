@@ -10,7 +10,7 @@ use Rattle.inverses.specs.Bases.{listed}
 use Rattle.inverses.proofs.Bases.{listed_low}
 use Rattle.truncated.specs.declared.polynomial.Polynomial.{Polynomial}
 use Rattle.truncated.specs.Remainders.{remainder, remainders, remainder_add, remainder_mul}
-use Rattle.truncated.specs.Polynomials.{bound, fits, places, eight}
+use Rattle.truncated.specs.Polynomials.{bound, fits, places}
 use Rattle.truncated.specs.Laws.{every_of, places_of, lawful_bound, both}
 use Rattle.truncated.specs.Operations.{Filled, product_of}
 

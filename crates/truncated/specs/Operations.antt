@@ -1,5 +1,5 @@
 -- What the parts of the operations answer.
-use Rattle.std.specs.Prelude.{◌≡◌, ℕ, ◌+◌, ◌<◌, ◌≤◌, T, ◌≢◌, List, length, slice_index}
+use Rattle.std.specs.Prelude.{◌≡◌, ℕ, ◌<◌, ◌≤◌, T, ◌≢◌, List, length, slice_index}
 use Rattle.ring.specs.Truncated.{product, monomial}
 use Rattle.inverses.specs.Bases.{listed}
 use Rattle.truncated.specs.declared.polynomial.Polynomial.{Polynomial}

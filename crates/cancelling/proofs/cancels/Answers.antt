@@ -1,4 +1,4 @@
-use Rattle.std.proofs.Common.{inl, inr, arith}
+use Rattle.std.proofs.Common.{inl, inr}
 use Rattle.cancelling.proofs.Rooms.{held_room}
 use Rattle.cancelling.proofs.Verdicts.{verdict}
 use Rattle.cancelling.proofs.cancels.Goals as goal

@@ -1,4 +1,4 @@
-use Rattle.std.proofs.Common.{arith, rules}
+use Rattle.std.proofs.Common.{arith}
 use lib.ListN.{get_or-eq_default}
 use Rattle.cancelling.proofs.coefficients.Goals as goal
 

@@ -1,4 +1,4 @@
-use Rattle.std.proofs.Common.{◌≡◌, ℕ, ◌≤◌, length}
+use Rattle.std.proofs.Common.{◌≤◌, length}
 use Rattle.recurrence.specs.Memory.{at, Unlawful}
 use Rattle.recurrence.specs.Polynomials.{Within}
 use Rattle.cancelling.proofs.coefficients.Given as goal

@@ -1,5 +1,4 @@
-use Rattle.std.proofs.Common.{ℕ, ◌-◌, ◌≤◌, T, length, sym, refl, subst, inl, inr, arith}
-use Rattle.recurrence.specs.Memory.{at}
+use Rattle.std.proofs.Common.{ℕ, ◌-◌, ◌≤◌, T, length, refl, inl, inr, arith}
 use Rattle.memory.proofs.Elements.{read_at, read_lawful}
 use Rattle.cancelling.proofs.Normals.{inverse_of, normal}
 use Rattle.cancelling.proofs.normalize.Goals as goal

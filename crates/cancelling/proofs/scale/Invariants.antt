@@ -1,4 +1,3 @@
-use Rattle.std.proofs.Common.{length}
 use Rattle.recurrence.specs.Memory.{at, Written}
 use Rattle.cancelling.proofs.scale.Given as goal
 

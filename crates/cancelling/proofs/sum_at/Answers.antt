@@ -1,4 +1,4 @@
-use Rattle.std.proofs.Common.{◌≡◌, ℕ, ◌+◌, ◌*◌, ◌<◌, length, sym, refl, ◌∙◌, ap₂, arith}
+use Rattle.std.proofs.Common.{◌+◌, ◌*◌, ◌<◌, length, ap₂, arith}
 use Rattle.ring.proofs.Loops.{place_inside, added_none, added_more}
 use Rattle.memory.proofs.Elements.{read_at, read_lawful}
 use Rattle.cancelling.proofs.sum_at.Goals as goal

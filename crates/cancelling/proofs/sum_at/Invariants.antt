@@ -1,4 +1,4 @@
-use Rattle.std.proofs.Common.{◌≡◌, ℕ, ◌+◌, T}
+use Rattle.std.proofs.Common.{◌≡◌, ◌+◌, T}
 use Rattle.ring.specs.Ring.{sum}
 use Rattle.recurrence.specs.Memory.{at}
 use Rattle.recurrence.specs.Words.{words}

@@ -1,4 +1,4 @@
-use Rattle.std.proofs.Common.{◌≡◌, ℕ, ◌+◌, ◌<◌, ◌≤◌, ◌≢◌, length, get_or, refl, ap, ◌∙◌, arith, get_or-set_other, get_or-set_same, rules, below_more}
+use Rattle.std.proofs.Common.{◌≡◌, ℕ, ◌<◌, ◌≤◌, ◌≢◌, length, refl, ap, arith, get_or-set_other, get_or-set_same, rules, below_more}
 use Rattle.recurrence.specs.declared.shape.Count.{Count}
 use Rattle.annihilator.specs.Calls.{seeking}
 use Rattle.ring.proofs.Rows.{passes_refuses}

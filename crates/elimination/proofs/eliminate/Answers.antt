@@ -1,9 +1,9 @@
-use Rattle.std.proofs.Common.{◌≡◌, ℕ, ◌+◌, ◌-◌, ◌*◌, ◌<◌, ◌≤◌, length, take, drop, sym, refl, ◌∙◌, subst, arith}
+use Rattle.std.proofs.Common.{◌≡◌, ℕ, ◌+◌, ◌-◌, ◌<◌, ◌≤◌, take, drop, sym, refl, ◌∙◌, subst, arith}
 use Rattle.std.proofs.lemmas.List.Edits.{length-between}
 use Rattle.ring.specs.Lawful.{cells, lifted}
 use Rattle.ring.proofs.Lifts as Lifts
 use Rattle.places.specs.Places.{places}
-use Rattle.places.proofs.Places.{place_below, held_small}
+use Rattle.places.proofs.Places.{place_below}
 use Rattle.elimination.proofs.Parts.{part_lawful}
 use Rattle.elimination.proofs.Clearings.{part_is, kept_read, cleared, stuck_there, stuck_nowhere}
 use Rattle.elimination.proofs.eliminate.Goals as goal

@@ -1,10 +1,10 @@
-use Rattle.std.proofs.Common.{◌≡◌, ◌+◌, ◌-◌, ◌<◌, set, sym, subst, arith}
+use Rattle.std.proofs.Common.{◌+◌, ◌-◌, ◌<◌, set, sym, subst, arith}
 use borrow.Rule.Slice.PartMut.{put_mid}
 use Rattle.ring.specs.Lawful.{cells, level_of}
 use Rattle.ring.proofs.Lifts as Lifts
 use Rattle.recurrence.proofs.Captures.{value}
 use Rattle.places.specs.Places.{capture_of}
-use Rattle.elimination.specs.Stores.{kept_level, kept_value}
+use Rattle.elimination.specs.Stores.{kept_level}
 use Rattle.places.proofs.Places.{place_below}
 use Rattle.elimination.proofs.Clearings.{kept_read}
 use Rattle.rows.proofs.Quotients.{level_is}

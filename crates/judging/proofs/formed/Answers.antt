@@ -1,5 +1,4 @@
 use Rattle.std.proofs.Common.{◌+◌, ◌<◌, true, false, arith, below_more}
-use Rattle.ring.specs.Ring.{power}
 use Rattle.ring.proofs.Loops.{place_inside}
 use Rattle.recurrence.specs.Findings.{long}
 use Rattle.judging.proofs.Elements.{power_none, power_more, marked_true, untold}

@@ -1,7 +1,5 @@
-use Rattle.std.proofs.Common.{◌≡◌, ℕ, ◌+◌, ◌<◌, ◌≢◌, sym, ◌∙◌, subst, arith, below_more}
-use native.Mathlib.Decide.{ℕ_discrete}
+use Rattle.std.proofs.Common.{◌≢◌, sym, ◌∙◌, subst, arith, below_more}
 use Rattle.rows.specs.Rows.{Holds, constant}
-use Rattle.levels.specs.Levels.{row_of}
 use Rattle.levels.proofs.Turns.{part_long, put_here, put_size, put_others}
 use Rattle.levels.proofs.begin_levels.Goals as goal
 

@@ -1,6 +1,6 @@
-use Rattle.std.proofs.Common.{◌≡◌, ℕ, suc, ◌+◌, ◌-◌, ◌*◌, ◌<◌, ◌≤◌, ◌≢◌, length, get_or, sym, refl, ap, ◌∙◌, subst, arith, get_or-set_other, get_or-set_same, below_more}
+use Rattle.std.proofs.Common.{suc, ◌<◌, ◌≢◌, length, get_or, sym, refl, ◌∙◌, arith, get_or-set_other, get_or-set_same, below_more}
 use Rattle.recurrence.specs.Findings.{blank}
-use Rattle.levels.specs.Levels.{row_of, Stopped, Before, After, Served}
+use Rattle.levels.specs.Levels.{row_of, Before, After, Served}
 use Rattle.levels.proofs.Turns.{part_row, part_long, put_here, put_size, put_others, turn_put, turn_none, turn_done, turned}
 use Rattle.levels.proofs.Rounds.{tables_put, whole_next, grown_start, grown_on, served_next}
 use Rattle.levels.proofs.Levels.{to_keep, room_above, raised, found_before, not_both}

@@ -1,4 +1,4 @@
-use Rattle.std.proofs.Common.{◌≡◌, ℕ, ◌+◌, ◌*◌, ◌<◌, ◌≤◌, ◌≢◌, length, get_or, set, sym, refl, ap, ◌∙◌, subst, arith, length-set, get_or-set_other, get_or-set_same, rules}
+use Rattle.std.proofs.Common.{◌≡◌, ℕ, ◌<◌, ◌≢◌, length, get_or, sym, ap, ◌∙◌, subst, arith, length-set, get_or-set_other, get_or-set_same, rules}
 use Rattle.recurrence.specs.Findings.{blank}
 use Rattle.levels.specs.Levels.{row_of, Open, Before, After, Less}
 use Rattle.levels.proofs.Turns.{part_row, part_long, put_here, put_size, turn_put, turn_none, turn_done, turn_rest, turned}

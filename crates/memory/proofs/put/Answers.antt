@@ -1,4 +1,4 @@
-use Rattle.std.proofs.Common.{◌≡◌, ℕ, ◌+◌, length, get_or, subst, arith}
+use Rattle.std.proofs.Common.{ℕ, get_or, subst, arith}
 use Rattle.std.proofs.lemmas.List.{get_or_read}
 use Rattle.recurrence.specs.Memory.{Written}
 use Rattle.recurrence.proofs.Writes.{written_more}

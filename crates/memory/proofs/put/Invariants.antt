@@ -1,4 +1,4 @@
-use Rattle.std.proofs.Common.{ℕ, get_or}
+use Rattle.std.proofs.Common.{get_or}
 use Rattle.recurrence.specs.Memory.{Written}
 use Rattle.memory.proofs.put.Given as goal
 

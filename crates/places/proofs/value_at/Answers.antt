@@ -1,7 +1,7 @@
-use Rattle.std.proofs.Common.{◌≡◌, ℕ, suc, ◌+◌, ◌*◌, ◌<◌, sym, ap, ◌∙◌, arith}
+use Rattle.std.proofs.Common.{◌≡◌, suc, sym, ap, ◌∙◌, arith}
 use Rattle.ring.specs.Lawful.{cells}
 use Rattle.ring.proofs.Lifts as Lifts
-use Rattle.places.proofs.Places.{held_within, place_within}
+use Rattle.places.proofs.Places.{place_within}
 use Rattle.places.proofs.Values.{partial, partial_none, value_partial, value_next}
 use Rattle.places.proofs.value_at.Goals as goal
 

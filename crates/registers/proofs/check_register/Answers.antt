@@ -1,4 +1,4 @@
-use Rattle.std.proofs.Common.{◌≡◌, ℕ, ◌<◌, ◌≢◌, ◌⊎◌, length, sym, refl, subst, inl, inr, ⊎_elim, arith}
+use Rattle.std.proofs.Common.{◌≡◌, ◌<◌, ◌≢◌, ◌⊎◌, length, sym, refl, subst, inl, inr, ⊎_elim, arith}
 use Rattle.recurrence.specs.Memory.{at, Unlawful}
 use Rattle.registers.specs.Registers.{degree, most}
 use Rattle.registers.proofs.check_register.Goals as goal

@@ -1,5 +1,5 @@
 use Rattle.std.proofs.Common.{◌≡◌, ℕ, suc, length, sym, refl, ap, ◌∙◌, subst, add-one, arith}
-use Rattle.ring.specs.Commutative.{CommRing, sum}
+use Rattle.ring.specs.Commutative.{sum}
 use Rattle.ring.specs.Lawful.{Lawful, Is, lifted, cells}
 use Rattle.ring.proofs.Lifts.{zero_is, sum_turn}
 use Rattle.registers.proofs.dot.Goals as goal

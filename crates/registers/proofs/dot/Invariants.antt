@@ -1,4 +1,4 @@
-use Rattle.ring.specs.Commutative.{CommRing, sum}
+use Rattle.ring.specs.Commutative.{sum}
 use Rattle.ring.specs.Lawful.{Is, lifted, cells}
 use Rattle.registers.proofs.dot.Given as goal
 

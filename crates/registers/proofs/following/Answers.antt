@@ -1,4 +1,4 @@
-use Rattle.std.proofs.Common.{◌≡◌, ℕ, List, ◌++◌, drop, ap, ◌∙◌, ap₂}
+use Rattle.std.proofs.Common.{ℕ, ◌++◌, drop, ap, ◌∙◌, ap₂}
 use Rattle.ring.specs.Lawful.{lifted}
 use Rattle.sources.specs.Window.{turned}
 use Rattle.registers.specs.Registers.{dot}

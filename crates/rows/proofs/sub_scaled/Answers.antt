@@ -1,4 +1,4 @@
-use Rattle.std.proofs.Common.{◌≡◌, refl, arith}
+use Rattle.std.proofs.Common.{refl, arith}
 use Rattle.rows.proofs.Scalings.{scaling_next, scaling_whole}
 use Rattle.rows.proofs.sub_scaled.Goals as goal
 

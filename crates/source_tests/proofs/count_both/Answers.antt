@@ -1,4 +1,4 @@
-use Rattle.std.proofs.Common.{◌≡◌, ℕ, ◌+◌, ◌%◌, length, sym, refl, ap, ◌∙◌, inl}
+use Rattle.std.proofs.Common.{◌≡◌, ◌+◌, ◌%◌, length, sym, refl, ap, ◌∙◌, inl}
 use Rattle.ring.specs.declared.Refusal.TheVariants.{Foreign}
 use Rattle.source_tests.specs.Numbers.{ring}
 use Rattle.source_tests.proofs.Drawn.{carried_out, at_place}

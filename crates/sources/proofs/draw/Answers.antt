@@ -1,4 +1,4 @@
-use Rattle.std.proofs.Common.{◌≡◌, ◌+◌, ap, ◌∙◌, add-zero, arith}
+use Rattle.std.proofs.Common.{◌+◌, ap, ◌∙◌, add-zero, arith}
 use Rattle.recurrence.proofs.Writes.{written_more}
 use Rattle.sources.proofs.draw.Goals as goal
 

@@ -1,4 +1,4 @@
-use Rattle.std.proofs.Common.{◌≡◌, ℕ, ◌+◌, ◌*◌, length, refl, subst, arith}
+use Rattle.std.proofs.Common.{◌≡◌, ℕ, ◌*◌, length, refl, subst, arith}
 use Rattle.recurrence.specs.Memory.{Written, at}
 use Rattle.capture.proofs.Rooms.{room}
 use Rattle.capture.proofs.Open.feed.Goals as goal

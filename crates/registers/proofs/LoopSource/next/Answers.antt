@@ -1,4 +1,4 @@
-use Rattle.std.proofs.Common.{◌≡◌, ◌+◌, ◌%◌, ◌<◌, length, sym, refl, ◌∙◌, mod-lt, arith}
+use Rattle.std.proofs.Common.{◌+◌, ◌%◌, ◌<◌, length, sym, refl, ◌∙◌, mod-lt, arith}
 use Rattle.std.proofs.lemmas.List.{get_or_read}
 use Rattle.ring.specs.Lawful.{hold}
 use Rattle.registers.proofs.Repeating.{repeated_first, repeated_later, repeated_none}

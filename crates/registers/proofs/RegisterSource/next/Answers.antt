@@ -1,4 +1,4 @@
-use Rattle.std.proofs.Common.{◌≡◌, T, sym, refl, ◌∙◌}
+use Rattle.std.proofs.Common.{refl, ◌∙◌}
 use Rattle.ring.specs.Lawful.{Is, lifted, hold}
 use Rattle.sources.specs.Window.{window}
 use Rattle.registers.specs.Registers.{dot}

@@ -1,4 +1,4 @@
-use Rattle.std.proofs.Common.{◌≡◌, ℕ, ◌+◌, ◌%◌, ◌^◌, ◌<◌, ltb, sym, refl, ap, ◌∙◌, add-zero, mod-lt, arith, lt-ltb}
+use Rattle.std.proofs.Common.{◌≡◌, ℕ, ◌+◌, ◌%◌, ◌^◌, ◌<◌, sym, refl, ap, ◌∙◌, add-zero, mod-lt, arith, lt-ltb}
 use native.Mathlib.Nat.{mod-add-mod}
 use Rattle.source_tests.proofs.CounterSourceResidue.next.Goals as goal
 

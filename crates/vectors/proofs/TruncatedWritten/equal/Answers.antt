@@ -1,4 +1,4 @@
-use Rattle.std.proofs.Common.{◌≡◌, Bool, true, T, Decides, sym, ap, subst, rules}
+use Rattle.std.proofs.Common.{◌≡◌, Bool, true, T, ap, rules}
 use Rattle.std.proofs.lemmas.Slice.Eq.{slice_eq-Decides}
 use Rattle.truncated.specs.declared.polynomial.Polynomial.{Polynomial}
 use Rattle.vectors.proofs.TruncatedWritten.equal.Goals as goal

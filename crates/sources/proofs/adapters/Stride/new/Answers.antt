@@ -1,4 +1,4 @@
-use Rattle.std.proofs.Common.{◌≡◌, ℕ, ◌*◌, sym, refl, ap, ◌∙◌, one-mul, arith, rules}
+use Rattle.std.proofs.Common.{ℕ, ◌*◌, sym, refl, ap, ◌∙◌, one-mul, arith, rules}
 use Rattle.sources.specs.Makers.{Makes, stride_rows, strided}
 use Rattle.sources.proofs.Obeying.{obeys_same}
 use Rattle.sources.proofs.adapters.Stride.new.Goals as goal

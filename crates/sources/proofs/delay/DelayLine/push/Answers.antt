@@ -1,4 +1,4 @@
-use Rattle.std.proofs.Common.{◌≡◌, ◌<◌, ◌≤◌, min, length, take, sym, refl, ◌∙◌, arith, length-set, length-take, drop-set-lt}
+use Rattle.std.proofs.Common.{◌≡◌, ◌<◌, ◌≤◌, length, take, sym, refl, ◌∙◌, arith, length-set, length-take, drop-set-lt}
 use Rattle.sources.proofs.Turns.{pushed, place_same, passed_on}
 use Rattle.sources.proofs.delay.DelayLine.push.Goals as goal
 
