@@ -41,7 +41,7 @@ module _ {E : Type 0} {R : Ring E} (L : Laws R) (shape : Shape) (ws : List E) wh
       → Is L a (value C (cells L row) q) → Is L k (kept_value L shape store q) → other ≡ kept_row L shape store q
       → Zeros C m q (cells L row) → Quotient L a k c → length new ≡ length row → Holds L new (scaled L c row other)
       → Cleared m q row new
-  cleared m q row store other new a k c fit kept-all ia ik eo zeros quot len holds = record {
+  cleared m q row store other new a k c fit kept_all ia ik eo zeros quot len holds = record {
     row_is = record {
       lawful = holds_lawful L new _ holds;
       long = len ∙ fit.long;
@@ -64,7 +64,7 @@ module _ {E : Type 0} {R : Ring E} (L : Laws R) (shape : Shape) (ws : List E) wh
       x = hold L c
 
       kept : Kept L shape ws m q g (kept_value L shape store q)
-      kept = subst (λ z. Kept L shape ws m q (cells L z) (kept_value L shape store q)) (sym eo) (kept-all.kept q)
+      kept = subst (λ z. Kept L shape ws m q (cells L z) (kept_value L shape store q)) (sym eo) (kept_all.kept q)
 
       whole : value C p q ≡ (lifted L).◌⊗◌ (value C g q) x
       whole = sym (Lifts.held L ia) ∙ quot.product ∙ ap (λ z. (lifted L).◌⊗◌ z x) (Lifts.held L ik ∙ kept.is)

@@ -5,7 +5,7 @@ use Rattle.ring.specs.Ring.{Ring}
 use Rattle.inverses.specs.Bases.{listed}
 use Rattle.recurrence.specs.declared.shape.Level.{Level}
 use Rattle.residue.specs.Modulo.{modulo}
-use Rattle.bits.specs.Bits.{bits as bit-polynomials}
+use Rattle.bits.specs.Bits.{bits as bit_polynomials}
 use Rattle.truncated.specs.declared.polynomial.Polynomial.{Polynomial}
 use Rattle.truncated.specs.Polynomials.{polynomials}
 use Rattle.known.specs.Entries.{Entry, long_is, one_channel, Yields}
@@ -24,7 +24,7 @@ Element (bits d) = ℕ
 abbrev pub ring : (k : Kind) → Ring (Element k)
 ring (residues p d) = modulo p d
 ring (truncated p h d) = polynomials p h d
-ring (bits d) = bit-polynomials d
+ring (bits d) = bit_polynomials d
 
 pub two_listed : T (listed 2)
 unfolding listed

@@ -52,7 +52,7 @@ module _ {E : Type 0} {R : Ring E} (L : Laws R) (shape : Shape) (ws : List E) wh
   }
 
   module _ (s i q place end : ℕ) (row new store : List E) (small : s ≤ e) (whole : Whole L shape ws s store) (op : Open L shape ws s i row place)
-      (gone : Eliminated L shape ws s row new store q) (at-end : end ≡ places shape s) where
+      (gone : Eliminated L shape ws s row new store q) (at_end : end ≡ places shape s) where
     monic : Monic C i s (cells L new)
     monic = record { below = gone.row.below; top = gone.top ∙ op.monic.top }
 

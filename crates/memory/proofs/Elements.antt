@@ -13,7 +13,7 @@ stable false h = absurd (h (λ x. x))
 
 module _ {E : Type 0} (R : Ring E) where
   pub lawful_below : (xs : List E) (m : ℕ) → (Unlawful R xs m → ⊥) → (j : ℕ) → j < m → T (R.lawful (at R xs j))
-  lawful_below xs m h j below = stable (R.lawful (at R xs j)) (λ no-law. h (j, below, no-law))
+  lawful_below xs m h j below = stable (R.lawful (at R xs j)) (λ no_law. h (j, below, no_law))
 
   -- the element that is read at j
   pub read_at : (xs : List E) (j : ℕ) (x : E) → j < length xs → x ≡ get_or xs j x → x ≡ at R xs j

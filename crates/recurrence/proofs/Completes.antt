@@ -45,7 +45,7 @@ module _ {A : Type 0} (C : Capture A) (chain : Chain C) where
                 ∙ ap (λ z. power R step i ⊗ z) lead.top.inverts ∙ mul_one (power R step i)))
 
             counted : (k : ℕ) → k < q → Counts C s k
-            counted k below-q = omega (arith, Valuations.div_mono n k q chain.wide (omega arith), first.counts)
+            counted k below_q = omega (arith, Valuations.div_mono n k q chain.wide (omega arith), first.counts)
 
             mg : Multiple C (v q) (value C g q)
             mg =

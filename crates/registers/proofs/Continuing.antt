@@ -23,10 +23,10 @@ module _ {A : Type 0} (R : CommRing A) (D : ℕ) (p : ℕ → A) where
   infix 80 ⊖◌
   open R use {◌⊗◌, ⊖◌}
 
-  abbrev Goes_on : (ℕ → A) → Type 0
-  Goes_on u = (k : ℕ) → D ≤ k → u k ≡ ⊖ sum R D (λ j. p j ⊗ u (k - D + j))
+  abbrev GoesOn : (ℕ → A) → Type 0
+  GoesOn u = (k : ℕ) → D ≤ k → u k ≡ ⊖ sum R D (λ j. p j ⊗ u (k - D + j))
 
-  once : (u v : ℕ → A) → ((k : ℕ) → k < D → u k ≡ v k) → Goes_on u → Goes_on v → (k : ℕ) → u k ≡ v k
+  once : (u v : ℕ → A) → ((k : ℕ) → k < D → u k ≡ v k) → GoesOn u → GoesOn v → (k : ℕ) → u k ≡ v k
   once u v begin gu gv = strong (λ k. u k ≡ v k) (λ k less. at k less (dec_lt k D))
     where
       at : (k : ℕ) → ((m : ℕ) → m < k → u m ≡ v m) → Dec (k < D) → u k ≡ v k
@@ -53,7 +53,7 @@ module _ {A : Type 0} (R : CommRing A) (D : ℕ) (p : ℕ → A) where
       begin : (k : ℕ) → k < D → run R D p D T k ≡ run R D p D S (k + 1)
       begin k h = begin_at k h (dec_lt (suc k) D)
 
-      goes_on : Goes_on (λ t. run R D p D S (t + 1))
+      goes_on : GoesOn (λ t. run R D p D S (t + 1))
       goes_on k h =
           Rec.run_next R D p D S (omega arith) (k + 1) (omega arith)
           ∙ ap ⊖◌ (Sums.sum_ext R D _ _ (λ j within. ap (λ z. p j ⊗ z) (ap (run R D p D S) (omega arith))))

@@ -99,5 +99,5 @@ module _ {E : Type 0} {R : Ring E} (L : Laws R) where
       → (T (R.lawful a) → T (R.lawful b) → p ≡ R.mul a b)
       → (T (R.lawful total) → T (R.lawful p) → r ≡ R.add total p)
       → Is L r (sumˡ (lifted L) (suc n) g)
-  sum_turn n g total-is a_is b-is e product added =
-      is_at (ap (λ z. (lifted L).◌⊕◌ (sumˡ (lifted L) n g) z) (sym e) ∙ sym (Sums.sum_suc (lifted L) n g)) (add_is total-is (mul_is a_is b-is product) added)
+  sum_turn n g total_is a_is b_is e product added =
+      is_at (ap (λ z. (lifted L).◌⊕◌ (sumˡ (lifted L) n g) z) (sym e) ∙ sym (Sums.sum_suc (lifted L) n g)) (add_is total_is (mul_is a_is b_is product) added)

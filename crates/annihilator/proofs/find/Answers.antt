@@ -10,11 +10,11 @@ use Rattle.annihilator.proofs.Findings.{enough, store_within, front_long, solved
 use Rattle.annihilator.proofs.find.Goals as goal
 
 -- the sizes, by the depth that was asked for
-extent-of : {E : Type 0} (R : Ring E) (e d n : ℕ) → d ≡ R.depth → d * (e + 1) ≤ n → extent R e ≤ n
-extent-of R e d n deep h = subst (λ z. z * (e + 1) ≤ n) deep h
+extent_of : {E : Type 0} (R : Ring E) (e d n : ℕ) → d ≡ R.depth → d * (e + 1) ≤ n → extent R e ≤ n
+extent_of R e d n deep h = subst (λ z. z * (e + 1) ≤ n) deep h
 
-work-of : {E : Type 0} (R : Ring E) (shape : Shape) (d w n : ℕ) → d ≡ R.depth → w ≡ (shape.count.words * shape.channels + 2 * d + 12) * (shape.count.words + shape.channels + 1) → w ≤ n → work_size R shape ≤ n
-work-of R shape d w n deep e h = subst (λ z. (shape.count.words * shape.channels + 2 * z + 12) * (shape.count.words + shape.channels + 1) ≤ n) deep (subst (λ z. z ≤ n) e h)
+work_of : {E : Type 0} (R : Ring E) (shape : Shape) (d w n : ℕ) → d ≡ R.depth → w ≡ (shape.count.words * shape.channels + 2 * d + 12) * (shape.count.words + shape.channels + 1) → w ≤ n → work_size R shape ≤ n
+work_of R shape d w n deep e h = subst (λ z. (shape.count.words * shape.channels + 2 * z + 12) * (shape.count.words + shape.channels + 1) ≤ n) deep (subst (λ z. z ≤ n) e h)
 
 pub all_lawful-requires : goal.all_lawful-requires
 all_lawful-requires g c = room_held c.args.shape _ (omega arith)
@@ -25,7 +25,7 @@ returns-then-not-all_lawful g c =
     let shape = c.args.shape in
     let deep = c.depth-depth.ensures.is in (
       inr (
-        enough R shape c.args.words.now c.args.finding.now c.args.work.now (omega arith) (extent-of R shape.count.words _ _ deep (omega arith)) (work-of R shape _ _ _ deep c.work_size.ensures (omega arith)),
+        enough R shape c.args.words.now c.args.finding.now c.args.work.now (omega arith) (extent_of R shape.count.words _ _ deep (omega arith)) (work_of R shape _ _ _ deep c.work_size.ensures (omega arith)),
         inl (words_foreign shape R c.args.words.now (c.all_lawful.ensures.no (λ t. subst T c.if-not-all_lawful.true t)), refl),
       ),
       (refl, refl, refl),
@@ -62,7 +62,7 @@ returns g c =
     let lawful = words_lawful shape R ws (c.all_lawful.ensures.yes (subst T (sym c.if-not-all_lawful.false) tt)) in
     let long : length new ≡ rows = c.solve.auto.finding ∙ front_long fm rows (omega arith) in
     let fits : cells ≤ length work = omega (arith, store_within shape c.depth-depth.result) in (
-      (enough R shape ws fm work (omega arith) (extent-of R shape.count.words _ _ deep (omega arith)) (work-of R shape _ _ _ deep c.work_size.ensures (omega arith)), (λ f. f lawful, tt)),
+      (enough R shape ws fm work (omega arith) (extent_of R shape.count.words _ _ deep (omega arith)) (work_of R shape _ _ _ deep c.work_size.ensures (omega arith)), (λ f. f lawful, tt)),
       (
         finding_of L shape ws (record { room = omega arith; lawful = lawful }) _ c.solve.new.table.levels
             (solved_in L shape ws (rows - 0) fm new c.solve.new.table.levels (ap (λ z. z * (shape.count.words + 1)) (sym deep) ∙ sym long) c.solve.ensures),

@@ -18,4 +18,4 @@ returns g c =
     let passed = c.in_ok-read_words.ensures.0 in
     let told = verdict (g.K.Kind.ring c.args.kind.now) c.args.shape.now c.args.cells.now c.args.taps.now _
     (c.coefficients-m.ensures.is (λ u. passed.1.0 (inr u))) in
-    (passed, (λ yes-it-does. told.0 (c.all_cancelled.ensures.0 yes-it-does), λ whole. c.all_cancelled.ensures.1 (told.1 whole)))
+    (passed, (λ yes_it_does. told.0 (c.all_cancelled.ensures.0 yes_it_does), λ whole. c.all_cancelled.ensures.1 (told.1 whole)))

@@ -8,11 +8,11 @@ use Rattle.bits.proofs.BitsKind.same.Goals as goal
 abbrev make : (d : ℕ) × ((1 ≤ d) × (d ≤ 31)) → Bits
 make x = record { depth = x.0; ok = x.1 }
 
-ok-prop : (d : ℕ) → IsProp ((1 ≤ d) × (d ≤ 31))
-ok-prop d = hlevel props
+ok_prop : (d : ℕ) → IsProp ((1 ≤ d) × (d ≤ 31))
+ok_prop d = hlevel props
 
 pub returns : goal.returns
 returns c = record {
-  yes = λ t. ap make (Σ_prop_path ok-prop {u = (c.args.self.now.depth, c.args.self.now.ok)} {v = (c.args.other.now.depth, c.args.other.now.ok)} (eqb→eq _ _ t));
+  yes = λ t. ap make (Σ_prop_path ok_prop {u = (c.args.self.now.depth, c.args.self.now.ok)} {v = (c.args.other.now.depth, c.args.other.now.ok)} (eqb→eq _ _ t));
   only = λ e. search (rules, eqb_refl, ap (λ x. x.depth) e);
 }
