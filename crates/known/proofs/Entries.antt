@@ -3,7 +3,7 @@ use Rattle.std.proofs.Common.{◌≡◌, ℕ, zero, suc, ◌+◌, ◌-◌, ◌*�
 use native.Mathlib.Decide.{dec_lt}
 use lib.Dec.{not_T}
 use lib.ListN.{get_or-eq_default}
-use Rattle.std.specs.List.{AllByRecursion as All}
+use Rattle.std.specs.List.{AllByRecursion}
 use Rattle.ring.specs.Ring.{Ring, Laws, UnitOf, power}
 use Rattle.ring.proofs.Lifts as Lifts
 use Rattle.inverses.proofs.Bases.{both_left, both_right, either}
@@ -187,14 +187,14 @@ module _ {E : Type 0} {R : Ring E} (F : Finite R) where
         ∷ every (λ f. all (leaves f)) x.tried
         ∷ []
 
-    module _ (L : Laws R) (t : All T finds) where
+    module _ (L : Laws R) (t : AllByRecursion T finds) where
       wide : 0 < n
       wide = ltb→lt 0 n t.0
 
       words : LawfulWords R n e S
       words k c hk hc = below_at n _ (below_at e (λ k. each_below n (λ c. R.lawful (S c k))) t.1.0 k hk) c hc
 
-      at_level : (i : ℕ) → i < R.depth → All T (level i)
+      at_level : (i : ℕ) → i < R.depth → AllByRecursion T (level i)
       at_level i hi = each_of (level i) (below_at R.depth (λ i. all (level i)) t.1.1.1.1.0 i hi)
 
       formed : Formed R e x.levels x.memory
@@ -362,10 +362,10 @@ module _ {E : Type 0} {R : Ring E} (F : Finite R) where
           left L finding (half (omega arith)) levels fm other (get_or x.tried j ([], 0)) (every_at (λ f. all (leaves f)) x.tried parts.1.1.1.1.0 j ([], 0) hj);
     }
       where
-        parts : All T right
+        parts : AllByRecursion T right
         parts = each_of right t
 
-        finding : All T finds
+        finding : AllByRecursion T finds
         finding = each_of finds parts.0
 
         half : 0 < length x.next + length x.tried → 2 * l 0 ≤ e

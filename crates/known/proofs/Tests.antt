@@ -1,6 +1,6 @@
 -- Tests that the checker computes, and what it means that they pass.
 use Rattle.std.proofs.Common.{◌≡◌, ℕ, zero, suc, ◌<◌, Bool, true, false, ◌&&◌, T, List, [], ◌∷◌, length, get_or, le_of_suc-le-suc, not-suc-le-zero, arith}
-use Rattle.std.specs.List.{AllByRecursion as All}
+use Rattle.std.specs.List.{AllByRecursion}
 use Rattle.ring.specs.Ring.{Ring}
 use Rattle.inverses.proofs.Bases.{both_left, both_right}
 use Rattle.inverses.proofs.Rule.{each_below}
@@ -23,7 +23,7 @@ every_at f [] t j d h = absurd (not-suc-le-zero h)
 every_at f (x ∷ xs) t zero d h = both_left (f x) (every f xs) t
 every_at f (x ∷ xs) t (suc j) d h = every_at f xs (both_right (f x) (every f xs) t) j d (le_of_suc-le-suc h)
 
-pub every_all : {A : Type 0} (f : A → Bool) (P : A → Type 0) → ((a : A) → T (f a) → P a) → (xs : List A) → T (every f xs) → All P xs
+pub every_all : {A : Type 0} (f : A → Bool) (P : A → Type 0) → ((a : A) → T (f a) → P a) → (xs : List A) → T (every f xs) → AllByRecursion P xs
 every_all f P h [] t = tt
 every_all f P h (x ∷ xs) t = (h x (both_left (f x) (every f xs) t), every_all f P h xs (both_right (f x) (every f xs) t))
 
@@ -31,7 +31,7 @@ every_all f P h (x ∷ xs) t = (h x (both_left (f x) (every f xs) t), every_all 
 abbrev pub all : List Bool → Bool
 all = every (λ b. b)
 
-pub each_of : (tests : List Bool) → T (all tests) → All T tests
+pub each_of : (tests : List Bool) → T (all tests) → AllByRecursion T tests
 each_of tests t = every_all (λ b. b) T (λ b t. t) tests t
 
 -- the elements of a ring can be gone through and compared: `each` says whether a test passes for all that are lawful

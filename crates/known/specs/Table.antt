@@ -1,6 +1,6 @@
 -- The captures whose findings are known.
 use Rattle.std.specs.Prelude.{ℕ, true, false, T, List, [], ◌∷◌, map, slice_index_or}
-use Rattle.std.specs.List.{AllByRecursion as All}
+use Rattle.std.specs.List.{AllByRecursion}
 use Rattle.ring.specs.Ring.{Ring}
 use Rattle.inverses.specs.Bases.{listed}
 use Rattle.recurrence.specs.declared.shape.Level.{Level}
@@ -214,4 +214,4 @@ levels_of row = slice_index_or all_levels row []
 
 -- The definitions yield every row of the table.
 abbrev pub Known : Type 0
-Known = All Holds table
+Known = AllByRecursion Holds table
