@@ -1,4 +1,4 @@
-use Rattle.std.proofs.Common.{◌+◌, ap, ◌∙◌, add-zero, arith}
+use Rattle.std.proofs.Common.{◌+◌, ap, ◌∙◌, add-zero, arith, rules}
 use Rattle.recurrence.proofs.Writes.{written_more}
 use Rattle.sources.proofs.draw.Goals as goal
 
@@ -6,7 +6,7 @@ pub loop-i-preserved : goal.loop-i-preserved
 loop-i-preserved g c =
     let s = g.S.Source in
     let inv = c.loop-i.invariant in (
-      written_more _ _ _ _ _ _ (omega arith) (c.next.ensures.first ∙ inv.1 0 ∙ ap (s.list c.args.source.now) (add-zero _)) inv.0,
-      (λ t. c.next.ensures.later t ∙ inv.1 (t + 1) ∙ ap (s.list c.args.source.now) (omega arith)),
-      c.next.ensures.same ∙ inv.2,
+      written_more _ _ _ _ _ _ (omega arith) (search rules ∙ inv.1 0 ∙ ap (s.list c.args.source.now) (add-zero _)) inv.0,
+      (λ t. search rules ∙ inv.1 (t + 1) ∙ ap (s.list c.args.source.now) (omega arith)),
+      search rules ∙ inv.2,
     )
