@@ -25,7 +25,7 @@ GIVEN = {
 # Parameters, other names of imports, and helpers that stand in a file of answers.
 MORE = """at-end b-is below-q bit-polynomials each-place extent-of found-again is-back is-drawn is-fed is-found-again is-opened
 is-refused is-reopened kept-all no-law ok-prop residue-laws total-is work-of yes-it-does""".split()
-# Declared here under the library's own spelling.
+# Names of the library with which a line of a proof begins, so that it reads like a declaration.
 KEPT = {"get_or-append_right", "get_or-eq_default", "get_or-set_other", "get_or-set_same"}
 # A string, or a word, in code.
 CODE = re.compile(r'"(?:[^"\\]|\\.)*"|' + WORD)
