@@ -1,11 +1,9 @@
 -- From the levels as the search leaves them to a finding of the words.
-use Rattle.std.proofs.Common.{◌≡◌, ℕ, suc, ◌+◌, ◌-◌, ◌*◌, ◌/◌, ◌%◌, ◌<◌, ◌≤◌, Bool, true, false, T, ◌⊎◌, List, length, get_or, take, drop, sym, refl, ap, ◌∙◌, subst, inl, inr, mod-lt, div-lt_iff_lt-mul, mul-le-mul, arith, get_or-drop, get_or-take}
+use Rattle.std.proofs.Common.{◌≡◌, ℕ, suc, ◌+◌, ◌*◌, ◌/◌, ◌%◌, ◌<◌, ◌≤◌, Bool, true, false, T, ◌⊎◌, List, ◌++◌, length, get_or, drop, sym, refl, ap, ◌∙◌, subst, inl, inr, mod-lt, div-lt_iff_lt-mul, mul-le-mul, arith, get_or-drop, get_or-take}
 use mathlib.Core.Path.{fun_ext}
 use native.Mathlib.Nat.{mod-add-div'}
 use native.Mathlib.Decide.{dec_lt}
 use lib.Seq.{take-append-le}
-use borrow.Rule.Slice.PartMut.{put_mid}
-use Rattle.std.proofs.lemmas.List.Edits.{length-between}
 use Rattle.std.proofs.lemmas.Slice.{between_is}
 use Rattle.ring.specs.Ring.{Ring, Laws, power}
 use Rattle.ring.specs.Lawful.{Lawful as Element, cells}
@@ -14,12 +12,12 @@ use Rattle.recurrence.specs.declared.shape.Shape.{Shape}
 use Rattle.recurrence.specs.declared.shape.Level.{Level}
 use Rattle.recurrence.specs.Memory.{at}
 use Rattle.recurrence.specs.Polynomials.{Degree}
-use Rattle.recurrence.specs.Words.{words, Cancels, Least}
+use Rattle.recurrence.specs.Words.{words, LawfulWords, Cancels, Least}
 use Rattle.recurrence.specs.Findings.{blank, long, extent, row, Finding}
 use Rattle.recurrence.proofs.Captures.{Capture, Monic}
 use Rattle.recurrence.proofs.Bridge as Bridge
 use Rattle.recurrence.proofs.Rows.{row_at, row_past}
-use Rattle.places.specs.Places.{capture_of, Held}
+use Rattle.places.specs.Places.{capture_of}
 use Rattle.places.proofs.Places.{wide, row_within}
 use Rattle.elimination.proofs.Parts.{part_none}
 use Rattle.recurrence.specs.Lent.{ShortWords, ShortFinding}
@@ -28,22 +26,18 @@ use Rattle.levels.specs.Levels.{row_of, Found}
 use Rattle.levels.specs.Rounds.{Tables, AllBefore, Solved}
 use Rattle.levels.proofs.Turns.{part_row}
 
--- no memory is short
-pub enough : {E : Type 0} (R : Ring E) (shape : Shape) (ws fm work : List E) → shape.capacity * shape.channels ≤ length ws → extent R shape.count.words ≤ length fm → work_size R shape ≤ length work
-    → ¬ (ShortWords shape ws ⊎ (ShortFinding R shape fm ⊎ (length work < work_size R shape)))
-enough R shape ws fm work h k l (inl s) = omega arith
-enough R shape ws fm work h k l (inr (inl s)) = omega arith
-enough R shape ws fm work h k l (inr (inr s)) = omega arith
+module _ {E : Type 0} (R : Ring E) (shape : Shape) (ws fm work : List E) (fits : extent R shape.count.words ≤ length fm) (room : work_size R shape ≤ length work) where
+  -- no memory is short
+  pub enough : ¬ ShortWords shape ws → ¬ (ShortWords shape ws ⊎ (ShortFinding R shape fm ⊎ (length work < work_size R shape)))
+  enough held (inl s) = held s
+  enough held (inr (inl s)) = omega arith
+  enough held (inr (inr s)) = omega arith
 
 -- the store lies within work memory
 pub store_within : (shape : Shape) (d : ℕ) → shape.count.words * shape.channels * (shape.count.words + 2) ≤ (shape.count.words * shape.channels + 2 * d + 12) * (shape.count.words + shape.channels + 1)
 store_within shape d =
     mul-le-mul {n₁ = shape.count.words * shape.channels} {m₁ = shape.count.words + 2} {n₂ = shape.count.words * shape.channels + 2 * d + 12} {m₂ = shape.count.words + shape.channels + 1}
     (omega arith) (omega (arith, wide shape))
-
--- the part from the beginning on is as long as its end says
-pub front_long : {X : Type 0} (xs : List X) (k : ℕ) → k ≤ length xs → length (take (k - 0) (drop 0 xs)) ≡ k
-front_long xs k h = omega (arith, length-between xs 0 k h)
 
 module _ {E : Type 0} {R : Ring E} (L : Laws R) (shape : Shape) (ws : List E) where
   abbrev C : Capture (Element L)
@@ -67,38 +61,34 @@ module _ {E : Type 0} {R : Ring E} (L : Laws R) (shape : Shape) (ws : List E) wh
       by (no k) = absurd (L.power_not i h ((Lifts.power_is L i).eq ∙ ap (λ z. z.0) (sym monic.top ∙ part_none L fm (i * (e + 1)) (e + 1) m (omega arith)) ∙ sym (Lifts.zero_is L refl).eq))
 
   -- after the last degree every level is found
-  pub solved : (d : ℕ) (fm : List E) (levels : List Level) (places : List ℕ) → Tables L shape ws d fm levels places → AllBefore L shape ws d fm levels places (suc e) → Solved L shape ws fm levels
-  solved d fm levels places tables before = record {
+  pub solved : (fm : List E) (levels : List Level) (places : List ℕ) → Tables L shape ws fm levels places → AllBefore L shape ws fm levels places (suc e) → Solved L shape ws fm levels
+  solved fm levels places tables before = record {
     marked = λ i h. is i h (get_or levels i blank).found refl;
-    found = λ i h. let f = (before i (omega (arith, tables.deep))).done (is i h (get_or levels i blank).found refl) in
+    found = λ i h. let f = (before i h).done (is i h (get_or levels i blank).found refl) in
         record { lawful = f.lawful; answer = f.answer; small = omega (arith, top_within i (get_or levels i blank).length fm h f.answer.monic) };
-    rest = λ i h. tables.rest i (omega (arith, tables.deep));
+    rest = tables.rest;
   }
     where
       is : (i : ℕ) → i < R.depth → (b : Bool) → (get_or levels i blank).found ≡ b → (get_or levels i blank).found ≡ true
       is i h true k = k
-      is i h false k = absurd (omega (arith, top_within i (suc e) fm h ((before i (omega (arith, tables.deep))).going k).monic))
+      is i h false k = absurd (omega (arith, top_within i (suc e) fm h ((before i h).going k).monic))
 
   -- in larger memory
-  pub solved_in : (k : ℕ) (fm new : List E) (levels : List Level) → R.depth * (e + 1) ≡ length new → Solved L shape ws new levels → Solved L shape ws (put_mid 0 k fm new) levels
-  solved_in k fm new levels size s = record {
+  pub solved_in : (new rest : List E) (levels : List Level) → R.depth * (e + 1) ≡ length new → Solved L shape ws new levels → Solved L shape ws (new ++ rest) levels
+  solved_in new rest levels size s = record {
     marked = s.marked;
     found = λ i h. subst (λ r. Found L shape ws e i r (get_or levels i blank).length) (sym (same i h)) (s.found i h);
     rest = s.rest;
   }
     where
-      after : List E
-      after = put_mid 0 k fm new
-
-      same : (i : ℕ) → i < R.depth → row_of shape after i ≡ row_of shape new i
+      same : (i : ℕ) → i < R.depth → row_of shape (new ++ rest) i ≡ row_of shape new i
       same i h =
           let end : i * (e + 1) + (e + 1) ≤ length new = row_within i (e + 1) R.depth (length new) h size in
           let b = i * (e + 1) + (e + 1) in
-          let front : take b after ≡ take b new = take-append-le b new _ end in
-          sym (part_row shape after (i * (e + 1)) i refl) ∙ between_is after (i * (e + 1)) b
-          ∙ ap (drop (i * (e + 1))) front ∙ sym (between_is new (i * (e + 1)) b) ∙ part_row shape new (i * (e + 1)) i refl
+          sym (part_row shape (new ++ rest) (i * (e + 1)) i refl) ∙ between_is (new ++ rest) (i * (e + 1)) b
+          ∙ ap (drop (i * (e + 1))) (take-append-le b new rest end) ∙ sym (between_is new (i * (e + 1)) b) ∙ part_row shape new (i * (e + 1)) i refl
 
-  module _ (held : Held L shape ws) (fm : List E) (levels : List Level) (s : Solved L shape ws fm levels) where
+  module _ (lawful : LawfulWords R n e S) (fm : List E) (levels : List Level) (s : Solved L shape ws fm levels) where
     f : ℕ → ℕ → Element L
     f i = cells L (row_of shape fm i)
 
@@ -131,12 +121,12 @@ module _ {E : Type 0} {R : Ring E} (L : Laws R) (shape : Shape) (ws : List E) wh
     cancels : (i : ℕ) → i < R.depth → Cancels R n e S (row R e levels fm i)
     unfolding f
     cancels i h = subst (Cancels R n e S) (sym (row_raw i h))
-        (Bridge.cancels_from L n e S (wide shape) held.lawful (long levels i) (f i) (degree i h) (s.found i h).answer.monic.below (s.found i h).answer.cancels)
+        (Bridge.cancels_from L n e S (wide shape) lawful (long levels i) (f i) (degree i h) (s.found i h).answer.monic.below (s.found i h).answer.cancels)
 
     least : (i : ℕ) → i < R.depth → Least R n e S i (long levels i)
     least i h m p lp lead cancel =
         (s.found i h).answer.least m (Bridge.lift L p) (Bridge.leads_to L n e S (wide shape) i m p lp lead)
-        (Bridge.cancels_to L n e S (wide shape) held.lawful m p lp (Bridge.degree_of L i m p lead) cancel)
+        (Bridge.cancels_to L n e S (wide shape) lawful m p lp (Bridge.degree_of L i m p lead) cancel)
 
     element : (j : ℕ) → j < extent R e → T (R.lawful (at R fm j))
     element j h =

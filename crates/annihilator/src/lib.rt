@@ -6,51 +6,28 @@ ghost use Rattle.levels.specs.Rounds.{ToSolve, Solved};
 ghost use Rattle.annihilator.specs.Calls.{Sought};
 
 use levels::{begin_levels, keep_levels, reduce_levels};
-use memory::all_lawful;
+use memory::Words;
 use recurrence::{Record, Shape};
 use ring::{Kind, Refusal};
 use rows::clear;
 
 // Degree by degree, until every level is found.
 fn solve<K: Kind>(
-    kind: &K,
-    shape: Shape,
-    words: &[K::Elem],
+    words: &Words<K>,
     store: &mut [K::Elem],
     finding: &mut [K::Elem],
     table: &mut Record,
 )
-    requires { ToSolve (K.laws kind.now) shape words.now finding.old store.old }
-    ensures { Solved (K.laws kind.now) shape words.now finding.new table.new.levels }
+    requires { ToSolve (K.laws words.now.kind) words.now.shape words.now.cells.now finding.old store.old }
+    ensures { Solved (K.laws words.now.kind) words.now.shape words.now.cells.now finding.new table.new.levels }
 {
-    let depth = kind.depth();
     let mut places = [0; 31];
     *table = Record::unfound();
-    clear(kind, store);
-    begin_levels(kind, shape, finding, depth);
-    for degree in 0..shape.count.words + 1 {
-        reduce_levels(
-            kind,
-            shape,
-            words,
-            store,
-            finding,
-            table,
-            &mut places,
-            degree,
-            depth,
-        );
-        keep_levels(
-            kind,
-            shape,
-            words,
-            store,
-            finding,
-            table,
-            &mut places,
-            degree,
-            depth,
-        );
+    clear(&words.kind, store);
+    begin_levels(&words.kind, words.shape, finding, words.kind.depth());
+    for degree in 0..=words.shape.count.words {
+        reduce_levels(words, store, finding, table, &mut places, degree);
+        keep_levels(words, store, finding, table, &mut places, degree);
     }
 }
 
@@ -76,23 +53,11 @@ pub fn find<K: Kind>(
 {
     let depth = kind.depth();
     let rows = depth * (shape.count.words + 1);
-    if words.len() < shape.capacity * shape.channels
-        || finding.len() < rows
-        || work.len() < work_size(shape, depth)
-    {
+    if finding.len() < rows || work.len() < work_size(shape, depth) {
         return Err(Refusal::Short);
     }
-    if !all_lawful(kind, words, shape.count.words * shape.channels) {
-        return Err(Refusal::Foreign);
-    }
-    let cells = shape.count.words * shape.channels * (shape.count.words + 2);
-    solve(
-        kind,
-        shape,
-        words,
-        &mut work[0..cells],
-        &mut finding[0..rows],
-        table,
-    );
+    let words = Words::new(*kind, shape, words)?;
+    let cells = words.places() * (shape.count.words + 2);
+    solve(&words, &mut work[..cells], &mut finding[..rows], table);
     Ok(())
 }

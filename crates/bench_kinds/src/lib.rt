@@ -6,26 +6,20 @@ use residue::Residue;
 use ring::Kind;
 use truncated::{Polynomial, Truncated};
 
-// b[i] = a[i] + b[i]
-fn add_all<K: Kind>(kind: &K, a: &[K::Elem], b: &mut [K::Elem]) {
+// b[i] = f(a[i], b[i])
+fn merge<E: Copy, F: Fn(E, E) -> E>(a: &[E], b: &mut [E], f: F)
+    requires { F.IsAlwaysCallable f }
+{
     let n = a.len().min(b.len());
     for i in 0..n {
-        b[i] = kind.add(a[i], b[i]);
-    }
-}
-
-// b[i] = a[i] × b[i]
-fn mul_all<K: Kind>(kind: &K, a: &[K::Elem], b: &mut [K::Elem]) {
-    let n = a.len().min(b.len());
-    for i in 0..n {
-        b[i] = kind.mul(a[i], b[i]);
+        b[i] = f(a[i], b[i]);
     }
 }
 
 // b[i] = a unit part of a[i]; the sum of the valuations
-fn split_all<K: Kind>(kind: &K, a: &[K::Elem], b: &mut [K::Elem]) -> usize {
-    let n = a.len().min(b.len());
+fn split_all<K: Kind>(kind: K, a: &[K::Elem], b: &mut [K::Elem]) -> usize {
     let mut total = 0usize;
+    let n = a.len().min(b.len());
     for i in 0..n {
         let (v, u) = kind.split(a[i]);
         total = total.wrapping_add(v);
@@ -36,8 +30,8 @@ fn split_all<K: Kind>(kind: &K, a: &[K::Elem], b: &mut [K::Elem]) -> usize {
 
 // a[0] × b[0] + a[1] × b[1] + ..
 fn dot<K: Kind>(kind: &K, a: &[K::Elem], b: &[K::Elem]) -> K::Elem {
-    let n = a.len().min(b.len());
     let mut sum = kind.zero();
+    let n = a.len().min(b.len());
     for i in 0..n {
         sum = kind.add(sum, kind.mul(a[i], b[i]));
     }
@@ -45,9 +39,9 @@ fn dot<K: Kind>(kind: &K, a: &[K::Elem], b: &[K::Elem]) -> K::Elem {
 }
 
 // The dot product so many times, each put into b.
-fn dots<K: Kind>(kind: &K, a: &[K::Elem], b: &mut [K::Elem], times: usize) {
+fn dots<K: Kind>(kind: K, a: &[K::Elem], b: &mut [K::Elem], times: usize) {
     for i in 0..times {
-        let sum = dot(kind, a, b);
+        let sum = dot(&kind, a, b);
         if b.len() > 0 {
             b[i % b.len()] = sum;
         }
@@ -57,44 +51,40 @@ fn dots<K: Kind>(kind: &K, a: &[K::Elem], b: &mut [K::Elem], times: usize) {
 #[unsafe(no_mangle)]
 pub extern "C" fn residue_add(base: u32, depth: usize, a: &[u32], b: &mut [u32]) {
     if let Ok(kind) = Residue::new(base, depth) {
-        add_all(&kind, a, b);
+        merge(a, b, |x, y| kind.add(x, y));
     }
 }
 
 #[unsafe(no_mangle)]
 pub extern "C" fn residue_mul(base: u32, depth: usize, a: &[u32], b: &mut [u32]) {
     if let Ok(kind) = Residue::new(base, depth) {
-        mul_all(&kind, a, b);
+        merge(a, b, |x, y| kind.mul(x, y));
     }
 }
 
 #[unsafe(no_mangle)]
 pub extern "C" fn residue_split(base: u32, depth: usize, a: &[u32], b: &mut [u32]) -> usize {
-    if let Ok(kind) = Residue::new(base, depth) {
-        split_all(&kind, a, b)
-    } else {
-        0
-    }
+    Residue::new(base, depth).map_or(0, |kind| split_all(kind, a, b))
 }
 
 #[unsafe(no_mangle)]
 pub extern "C" fn residue_dot(base: u32, depth: usize, a: &[u32], b: &mut [u32], times: usize) {
     if let Ok(kind) = Residue::new(base, depth) {
-        dots(&kind, a, b, times);
+        dots(kind, a, b, times);
     }
 }
 
 #[unsafe(no_mangle)]
 pub extern "C" fn truncated_add(base: u32, depth: usize, a: &[Polynomial], b: &mut [Polynomial]) {
     if let Ok(kind) = Truncated::new(base, depth) {
-        add_all(&kind, a, b);
+        merge(a, b, |x, y| kind.add(x, y));
     }
 }
 
 #[unsafe(no_mangle)]
 pub extern "C" fn truncated_mul(base: u32, depth: usize, a: &[Polynomial], b: &mut [Polynomial]) {
     if let Ok(kind) = Truncated::new(base, depth) {
-        mul_all(&kind, a, b);
+        merge(a, b, |x, y| kind.mul(x, y));
     }
 }
 
@@ -105,11 +95,7 @@ pub extern "C" fn truncated_split(
     a: &[Polynomial],
     b: &mut [Polynomial],
 ) -> usize {
-    if let Ok(kind) = Truncated::new(base, depth) {
-        split_all(&kind, a, b)
-    } else {
-        0
-    }
+    Truncated::new(base, depth).map_or(0, |kind| split_all(kind, a, b))
 }
 
 #[unsafe(no_mangle)]
@@ -121,36 +107,32 @@ pub extern "C" fn truncated_dot(
     times: usize,
 ) {
     if let Ok(kind) = Truncated::new(base, depth) {
-        dots(&kind, a, b, times);
+        dots(kind, a, b, times);
     }
 }
 
 #[unsafe(no_mangle)]
 pub extern "C" fn bits_add(base: u32, depth: usize, a: &[u32], b: &mut [u32]) {
     if let Ok(kind) = Bits::new(base, depth) {
-        add_all(&kind, a, b);
+        merge(a, b, |x, y| kind.add(x, y));
     }
 }
 
 #[unsafe(no_mangle)]
 pub extern "C" fn bits_mul(base: u32, depth: usize, a: &[u32], b: &mut [u32]) {
     if let Ok(kind) = Bits::new(base, depth) {
-        mul_all(&kind, a, b);
+        merge(a, b, |x, y| kind.mul(x, y));
     }
 }
 
 #[unsafe(no_mangle)]
 pub extern "C" fn bits_split(base: u32, depth: usize, a: &[u32], b: &mut [u32]) -> usize {
-    if let Ok(kind) = Bits::new(base, depth) {
-        split_all(&kind, a, b)
-    } else {
-        0
-    }
+    Bits::new(base, depth).map_or(0, |kind| split_all(kind, a, b))
 }
 
 #[unsafe(no_mangle)]
 pub extern "C" fn bits_dot(base: u32, depth: usize, a: &[u32], b: &mut [u32], times: usize) {
     if let Ok(kind) = Bits::new(base, depth) {
-        dots(&kind, a, b, times);
+        dots(kind, a, b, times);
     }
 }

@@ -1,7 +1,7 @@
 // Where bit polynomials are cut.
 ghost use Rattle.std.specs.Prelude.{◌≤◌};
 
-#[derive(Clone, Copy)]
+#[derive(Clone, Copy, Debug, PartialEq, Eq)]
 pub struct Bits {
     pub depth: usize,
     ghost ok: { (1 ≤ depth) × (depth ≤ 31) },

@@ -65,7 +65,7 @@ impl Kind for Bits {
         let mut sum = 0;
         let mut moved = a;
         let mut rest = b;
-        for i in 0..self.depth {
+        for _ in 0..self.depth {
             if rest & 1 == 1 {
                 sum ^= moved;
             }
@@ -105,7 +105,7 @@ impl Kind for Bits {
     }
 
     fn same(&self, other: &Bits) -> bool {
-        self.depth == other.depth
+        self == other
     }
 }
 
@@ -115,35 +115,36 @@ mod tests {
     use std::test::Fail;
 
     fn of_depth(d: usize) -> Result<Bits, Fail> {
-        match Bits::new(2, d) {
-            Ok(k) => Ok(k),
-            Err(_) => Err(Fail::new("refused")),
-        }
+        Bits::new(2, d).map_err(|_| Fail::new("refused"))
+    }
+
+    fn refusal(p: u32, d: usize) -> Option<u8> {
+        Bits::new(p, d).err().map(Refusal::number)
     }
 
     #[test]
     fn refuses(rt: HostRuntime) {
-        assert!(rt; Bits::new(3, 32).is_err());
-        assert!(rt; Bits::new(2, 0).is_err());
-        assert!(rt; Bits::new(2, 32).is_err());
-        assert!(rt; Bits::new(2, 31).is_ok());
+        assert_eq!(rt; refusal(3, 32), Some(1));
+        assert_eq!(rt; refusal(2, 0), Some(2));
+        assert_eq!(rt; refusal(2, 32), Some(2));
+        assert_eq!(rt; refusal(2, 31), None);
     }
 
     #[test]
     fn multiplies(rt: HostRuntime) -> Result<(), Fail> {
         let k = of_depth(4)?;
-        assert!(rt; k.mul(3, 7) == 9);
-        assert!(rt; k.mul(9, 6) == 6);
-        assert!(rt; k.inverse(3) == 15);
-        assert!(rt; of_depth(1)?.step() == 0);
+        assert_eq!(rt; k.mul(3, 7), 9);
+        assert_eq!(rt; k.mul(9, 6), 6);
+        assert_eq!(rt; k.inverse(3), 15);
+        assert_eq!(rt; of_depth(1)?.step(), 0);
         Ok(())
     }
 
     #[test]
     fn splits(rt: HostRuntime) -> Result<(), Fail> {
         let k = of_depth(4)?;
-        assert!(rt; k.split(12) == (2, 3));
-        assert!(rt; k.split(0) == (4, 1));
+        assert_eq!(rt; k.split(12), (2, 3));
+        assert_eq!(rt; k.split(0), (4, 1));
         Ok(())
     }
 }

@@ -1,135 +1,239 @@
 // The calls on a found capture.
 use crate::State;
-use crate::digests::{Digested, digest};
-use crate::memories::{Memory, front, size};
+use crate::memories::{Memory, digest, front, put, size};
 use capture::Found;
 use lines::Fields;
+use recurrence::Level;
 use ring::{Kind, Refusal};
 use std::alloc::Global;
 use std::io;
-use vectors::{Written, elements, filled};
+use vectors::{Answer, Element, Failure, Written, elements, yes_or_no};
 
-fn print_verdict<R: Print>(rt: &R, answer: Result<bool, Refusal>, any: bool) -> io::Result<()> {
-    match answer {
-        Ok(_) if any => rt.println("ok"),
-        Ok(true) => rt.println("yes"),
-        Ok(false) => rt.println("no"),
-        Err(refusal) => println!(rt; "refused {}", refusal.number()),
+// How much of an answer is determined by the words: all of it, or what does not hang on the finding's lower coefficients.
+#[derive(Clone, Copy)]
+pub enum Determined {
+    All,
+    Part,
+}
+
+// A call, with how much of the finding and the words is handed in; or what the test itself puts into a memory.
+#[derive(Drop)]
+pub enum FoundCall<K: Kind> {
+    Reopen,
+    Settled {
+        finding: usize,
+    },
+    CanBeRunBack {
+        finding: usize,
+        told: Determined,
+    },
+    TryOn {
+        finding: usize,
+        polynomial: Vec<K::Elem>,
+        told: Determined,
+    },
+    RunOn {
+        words: usize,
+        finding: usize,
+        buffer: Vec<K::Elem>,
+        told: Determined,
+    },
+    PutWord {
+        place: usize,
+        element: K::Elem,
+    },
+    PutFinding {
+        place: usize,
+        element: K::Elem,
+    },
+    PutLevel {
+        place: usize,
+        level: Level,
+    },
+}
+
+impl<K: Written> FoundCall<K> {
+    pub fn read(
+        heap: Global,
+        kind: &K,
+        word: &str,
+        fields: &mut Fields<'_>,
+    ) -> Result<FoundCall<K>, Failure> {
+        Ok(match word {
+            "reopen" => FoundCall::Reopen,
+            "settled" => FoundCall::Settled {
+                finding: size(fields),
+            },
+            "runs-back" => FoundCall::can_be_run_back(fields, Determined::All),
+            "runs-back-any" => FoundCall::can_be_run_back(fields, Determined::Part),
+            "try" => FoundCall::try_on(heap, fields, Determined::Part)?,
+            "try-whole" => FoundCall::try_on(heap, fields, Determined::All)?,
+            "run" => FoundCall::run_on(heap, kind, fields, Determined::All)?,
+            "run-any" => FoundCall::run_on(heap, kind, fields, Determined::Part)?,
+            "words" => FoundCall::PutWord {
+                place: size(fields),
+                element: K::Elem::read(fields)?,
+            },
+            "finding" => FoundCall::PutFinding {
+                place: size(fields),
+                element: K::Elem::read(fields)?,
+            },
+            "level" => FoundCall::PutLevel {
+                place: size(fields),
+                level: Level {
+                    length: size(fields),
+                    found: size(fields) == 1,
+                },
+            },
+            _ => return Err(Failure::Unreadable),
+        })
+    }
+
+    fn can_be_run_back(fields: &mut Fields<'_>, told: Determined) -> FoundCall<K> {
+        let finding = size(fields);
+        FoundCall::CanBeRunBack { finding, told }
+    }
+
+    fn try_on(
+        heap: Global,
+        fields: &mut Fields<'_>,
+        told: Determined,
+    ) -> Result<FoundCall<K>, Failure> {
+        let finding = size(fields);
+        let many = size(fields);
+        let polynomial = elements(heap, fields, many)?;
+        Ok(FoundCall::TryOn {
+            finding,
+            polynomial,
+            told,
+        })
+    }
+
+    fn run_on(
+        heap: Global,
+        kind: &K,
+        fields: &mut Fields<'_>,
+        told: Determined,
+    ) -> Result<FoundCall<K>, Failure> {
+        Ok(FoundCall::RunOn {
+            words: size(fields),
+            finding: size(fields),
+            buffer: vec![in heap; kind.one(); size(fields)]?,
+            told,
+        })
     }
 }
 
-// Tries a polynomial; whole: all of what is left is determined.
-fn attempt<K: Digested, R: Print>(
-    rt: &R,
-    heap: Global,
-    found: &Found<K>,
-    memory: &Memory<K>,
-    fields: &mut Fields<'_>,
-    whole: bool,
-) -> io::Result<()> {
-    let handed = size(fields);
-    let many = size(fields);
-    let Some(mut polynomial) = elements::<K>(heap, fields, many)? else {
-        return rt.println("unreadable");
-    };
-    match found.try_on(
-        &memory.record,
-        front(memory.finding.as_slice(), handed),
-        polynomial.as_mut_slice(),
-    ) {
-        Ok(left) if whole => println!(rt;
-            "left {left} polynomial {}",
-            digest::<K>(0, polynomial.as_slice())
-        ),
-        Ok(left) => {
-            let above = left.min(polynomial.len());
-            println!(rt;
-                "left {left} above {}",
-                digest::<K>(0, &polynomial.as_slice()[above..])
-            )
+impl<K: Written> FoundCall<K> {
+    // Carries the call out, and prints what it answers and what the memories hold then.
+    pub fn carry_out<R: Print>(
+        self,
+        rt: &R,
+        found: Found<K>,
+        memory: &mut Memory<K>,
+    ) -> io::Result<State<K>> {
+        match self {
+            FoundCall::Reopen => {
+                rt.println("ok")?;
+                return Ok(State::Taking(found.reopen()));
+            }
+            FoundCall::Settled { finding } => {
+                let answer = found.settled(
+                    &memory.record,
+                    front(memory.finding.as_slice(), finding),
+                );
+                rt.println(Answer(answer.map(yes_or_no)))?;
+            }
+            FoundCall::CanBeRunBack { finding, told } => {
+                run_back(rt, &found, memory, finding, told)?
+            }
+            FoundCall::TryOn {
+                finding,
+                polynomial,
+                told,
+            } => attempt(rt, &found, memory, finding, polynomial, told)?,
+            FoundCall::RunOn {
+                words,
+                finding,
+                buffer,
+                told,
+            } => run(rt, &found, memory, words, finding, buffer, told)?,
+            FoundCall::PutWord { place, element } => {
+                rt.println(put(memory.words.as_mut_slice(), place, element))?;
+            }
+            FoundCall::PutFinding { place, element } => {
+                rt.println(put(memory.finding.as_mut_slice(), place, element))?;
+            }
+            FoundCall::PutLevel { place, level } => {
+                memory.put_level(place, level);
+                rt.println("put")?;
+            }
         }
-        Err(refusal) => println!(rt;
-            "refused {} polynomial {}",
-            refusal.number(),
-            digest::<K>(0, polynomial.as_slice())
-        ),
+        Ok(State::Standing(found))
     }
 }
 
-// Runs on; any: the words that come depend on the finding's lower coefficients.
-fn run<K: Digested, R: Print>(
+fn run_back<K: Written, R: Print>(
     rt: &R,
-    heap: Global,
     found: &Found<K>,
     memory: &Memory<K>,
-    fields: &mut Fields<'_>,
-    any: bool,
+    finding: usize,
+    told: Determined,
 ) -> io::Result<()> {
-    let words = size(fields);
-    let finding = size(fields);
-    let mut buffer = filled(heap, memory.kind.one(), size(fields))?;
-    match found.run_on(
+    let answer = found.can_be_run_back(&memory.record, front(memory.finding.as_slice(), finding));
+    rt.println(Answer(answer.map(|verdict| match told {
+        Determined::All => yes_or_no(verdict),
+        Determined::Part => "ok",
+    })))
+}
+
+// Tries a polynomial, and prints all that is left of it or what stands above that.
+fn attempt<K: Written, R: Print>(
+    rt: &R,
+    found: &Found<K>,
+    memory: &Memory<K>,
+    finding: usize,
+    mut polynomial: Vec<K::Elem>,
+    told: Determined,
+) -> io::Result<()> {
+    let answer = found.try_on(
+        &memory.record,
+        front(memory.finding.as_slice(), finding),
+        polynomial.as_mut_slice(),
+    );
+    let whole = digest(0, polynomial.as_slice());
+    match (answer, told) {
+        (Ok(left), Determined::All) => println!(rt; "left {left} polynomial {whole}"),
+        (Ok(left), Determined::Part) => {
+            let above = polynomial.as_slice().get(left..).unwrap_or(&[]);
+            println!(rt; "left {left} above {}", digest(0, above))
+        }
+        (Err(refusal), _) => println!(rt; "refused {refusal} polynomial {whole}"),
+    }
+}
+
+// Runs on into the buffer, and prints what it holds then.
+fn run<K: Written, R: Print>(
+    rt: &R,
+    found: &Found<K>,
+    memory: &Memory<K>,
+    words: usize,
+    finding: usize,
+    mut buffer: Vec<K::Elem>,
+    told: Determined,
+) -> io::Result<()> {
+    let answer = found.run_on(
         front(memory.words.as_slice(), words),
         &memory.record,
         front(memory.finding.as_slice(), finding),
         buffer.as_mut_slice(),
-    ) {
-        Ok(()) if any => rt.println("ok"),
-        Ok(()) => println!(rt; "ok buffer {}", digest::<K>(0, buffer.as_slice())),
-        Err(refusal) => println!(rt;
-            "refused {} buffer {}",
-            refusal.number(),
-            digest::<K>(0, buffer.as_slice())
+    );
+    match (answer, told) {
+        (Ok(()), Determined::Part) => rt.println("ok"),
+        (answer, _) => println!(rt;
+            "{} buffer {}",
+            Answer(answer.and(Ok("ok"))),
+            digest(0, buffer.as_slice())
         ),
     }
-}
-
-pub fn found_call<K: Digested, R: Print>(
-    rt: &R,
-    heap: Global,
-    found: Found<K>,
-    memory: &mut Memory<K>,
-    word: &str,
-    fields: &mut Fields<'_>,
-) -> io::Result<State<K>> {
-    match word {
-        "reopen" => {
-            let open = found.reopen();
-            rt.println("ok")?;
-            return Ok(State::Taking(open));
-        }
-        "settled" => print_verdict(
-            rt,
-            found.settled(
-                &memory.record,
-                front(memory.finding.as_slice(), size(fields)),
-            ),
-            false,
-        )?,
-        "runs-back" => print_verdict(
-            rt,
-            found.can_be_run_back(
-                &memory.record,
-                front(memory.finding.as_slice(), size(fields)),
-            ),
-            false,
-        )?,
-        "runs-back-any" => print_verdict(
-            rt,
-            found.can_be_run_back(
-                &memory.record,
-                front(memory.finding.as_slice(), size(fields)),
-            ),
-            true,
-        )?,
-        "try" => attempt(rt, heap, &found, memory, fields, false)?,
-        "try-whole" => attempt(rt, heap, &found, memory, fields, true)?,
-        "run" => run(rt, heap, &found, memory, fields, false)?,
-        "run-any" => run(rt, heap, &found, memory, fields, true)?,
-        "words" => memory.put_word(rt, fields)?,
-        "finding" => memory.put_finding(rt, fields)?,
-        "level" => memory.put_level(rt, fields)?,
-        _ => rt.println("unreadable")?,
-    }
-    Ok(State::Standing(found))
 }

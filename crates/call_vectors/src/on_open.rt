@@ -1,123 +1,178 @@
 // The calls on an open capture.
 use crate::State;
-use crate::digests::{Digested, digest};
-use crate::memories::{Memory, front, front_mut, print_outcome, size};
+use crate::memories::{Memory, digest, front, front_mut, put, size};
 use capture::Open;
 use generators::Generator;
 use lines::Fields;
-use registers::{Loop, Register};
 use ring::Kind;
 use sources::Source;
 use std::alloc::Global;
 use std::io;
-use std::mem::replace;
-use vectors::{Written, elements, filled};
+use vectors::{Answer, Element, Failure, Written, elements};
 
-fn feed<K: Digested, R: Print>(
+// How much of each memory a profile is handed.
+#[derive(Clone, Copy)]
+pub struct Profiled {
+    words: usize,
+    numbers: usize,
+    work: usize,
+    finding: usize,
+}
+
+// How much of each memory a find is handed.
+#[derive(Clone, Copy)]
+pub struct Sought {
+    words: usize,
+    finding: usize,
+    work: usize,
+}
+
+// A call, with how much of each memory is handed in.
+#[derive(Drop)]
+pub enum OpenCall<K: Kind> {
+    Feed {
+        words: usize,
+        word: Vec<K::Elem>,
+    },
+    Draw {
+        words: usize,
+        many: usize,
+        from: Generator<K>,
+    },
+    TakeBack {
+        many: usize,
+    },
+    Profile(Profiled),
+    Find(Sought),
+    PutWord {
+        place: usize,
+        element: K::Elem,
+    },
+}
+
+impl<K: Written> OpenCall<K> {
+    pub fn read(heap: Global, word: &str, fields: &mut Fields<'_>) -> Result<OpenCall<K>, Failure> {
+        Ok(match word {
+            "feed" => {
+                let words = size(fields);
+                let many = size(fields);
+                let word = elements(heap, fields, many)?;
+                OpenCall::Feed { words, word }
+            }
+            "draw" => OpenCall::Draw {
+                words: size(fields),
+                many: size(fields),
+                from: Generator::read(heap, fields)?,
+            },
+            "back" => OpenCall::TakeBack { many: size(fields) },
+            "profile" => OpenCall::Profile(Profiled {
+                words: size(fields),
+                numbers: size(fields),
+                work: size(fields),
+                finding: size(fields),
+            }),
+            "find" => OpenCall::Find(Sought {
+                words: size(fields),
+                finding: size(fields),
+                work: size(fields),
+            }),
+            "words" => OpenCall::PutWord {
+                place: size(fields),
+                element: K::Elem::read(fields)?,
+            },
+            _ => return Err(Failure::Unreadable),
+        })
+    }
+}
+
+impl<K: Written> OpenCall<K> {
+    // Carries the call out, and prints what it answers and what the memories hold then.
+    pub fn carry_out<R: Print + AllocGlobal>(
+        self,
+        rt: &R,
+        mut open: Open<K>,
+        memory: &mut Memory<K>,
+    ) -> io::Result<State<K>> {
+        match self {
+            OpenCall::Feed { words, word } => feed(rt, &mut open, memory, words, word.as_slice())?,
+            OpenCall::Draw { words, many, from } => draw(rt, &mut open, memory, words, many, from)?,
+            OpenCall::TakeBack { many } => take_back(rt, &mut open, memory, many)?,
+            OpenCall::Profile(handed) => profile(rt, &mut open, memory, &handed)?,
+            OpenCall::Find(handed) => return find(rt, open, memory, &handed),
+            OpenCall::PutWord { place, element } => {
+                rt.println(put(memory.words.as_mut_slice(), place, element))?;
+            }
+        }
+        Ok(State::Taking(open))
+    }
+}
+
+fn feed<K: Written, R: Print>(
     rt: &R,
-    heap: Global,
     open: &mut Open<K>,
     memory: &mut Memory<K>,
-    fields: &mut Fields<'_>,
+    words: usize,
+    word: &[K::Elem],
 ) -> io::Result<()> {
-    let handed = size(fields);
-    let many = size(fields);
-    let Some(word) = elements::<K>(heap, fields, many)? else {
-        return rt.println("unreadable");
-    };
-    let answer = open.feed(
-        front_mut(memory.words.as_mut_slice(), handed),
-        word.as_slice(),
-    );
+    let answer = open.feed(front_mut(memory.words.as_mut_slice(), words), word);
     if answer.is_ok() {
         memory.count = memory.count.saturating_add(1);
     }
-    print_outcome(rt, answer)?;
+    rt.print(Answer(answer.and(Ok("ok"))))?;
     memory.print_words(rt)?;
     rt.println("")
 }
 
-fn draw_from<K: Digested, S: Source<K>, R: Print>(
+fn draw<K: Written, R: Print>(
     rt: &R,
     open: &mut Open<K>,
     memory: &mut Memory<K>,
-    source: &mut S,
-    handed: usize,
+    words: usize,
     many: usize,
+    mut from: Generator<K>,
 ) -> io::Result<()> {
-    let answer = open.draw(front_mut(memory.words.as_mut_slice(), handed), source, many);
+    let mut source = from.source();
+    let answer = open.draw(
+        front_mut(memory.words.as_mut_slice(), words),
+        &mut source,
+        many,
+    );
     if answer.is_ok() {
         memory.count = memory.count.saturating_add(many);
     }
-    print_outcome(rt, answer)?;
+    rt.print(Answer(answer.and(Ok("ok"))))?;
     memory.print_words(rt)?;
-    rt.print(" then ")?;
-    K::print(rt, source.next())?;
-    rt.println("")
+    println!(rt; " then {}", source.next())
 }
 
-fn draw<K: Digested, R: Print>(
-    rt: &R,
-    heap: Global,
-    open: &mut Open<K>,
-    memory: &mut Memory<K>,
-    fields: &mut Fields<'_>,
-) -> io::Result<()> {
-    let handed = size(fields);
-    let many = size(fields);
-    let Some(made) = Generator::<K>::read(heap, fields)? else {
-        return rt.println("unreadable");
-    };
-    let Generator {
-        kind,
-        register,
-        list,
-        mut stages,
-    } = made;
-    if register {
-        let mut source = Register::new(kind, list.as_slice(), stages.as_mut_slice());
-        draw_from(rt, open, memory, &mut source, handed, many)
-    } else {
-        let mut source = Loop::new(kind, list.as_slice());
-        draw_from(rt, open, memory, &mut source, handed, many)
-    }
-}
-
-fn take_back<K: Digested, R: Print>(
+fn take_back<K: Written, R: Print>(
     rt: &R,
     open: &mut Open<K>,
     memory: &mut Memory<K>,
-    fields: &mut Fields<'_>,
+    many: usize,
 ) -> io::Result<()> {
-    let many = size(fields);
     let answer = open.take_back(many);
     if answer.is_ok() {
         memory.count = memory.count.saturating_sub(many);
     }
-    print_outcome(rt, answer)?;
-    rt.println("")
+    rt.println(Answer(answer.and(Ok("ok"))))
 }
 
-fn profile<K: Digested, R: Print>(
+fn profile<K: Written, R: Print + AllocGlobal>(
     rt: &R,
-    heap: Global,
     open: &mut Open<K>,
     memory: &mut Memory<K>,
-    fields: &mut Fields<'_>,
+    handed: &Profiled,
 ) -> io::Result<()> {
-    let words = size(fields);
-    let numbers = size(fields);
-    let mut work = filled(heap, memory.kind.one(), size(fields))?;
-    let mut finding = filled(heap, memory.kind.one(), size(fields))?;
-    let mut held = replace(&mut memory.numbers, Vec::new(heap));
+    let mut work = vec![in rt.alloc(); memory.kind.one(); handed.work]?;
+    let mut finding = vec![in rt.alloc(); memory.kind.one(); handed.finding]?;
     let answer = open.profile(
-        front(memory.words.as_slice(), words),
-        front_mut(held.as_mut_slice(), numbers),
+        front(memory.words.as_slice(), handed.words),
+        front_mut(memory.numbers.as_mut_slice(), handed.numbers),
         work.as_mut_slice(),
         finding.as_mut_slice(),
     );
-    memory.numbers = held;
-    print_outcome(rt, answer)?;
+    rt.print(Answer(answer.and(Ok("ok"))))?;
     memory.print_words(rt)?;
     rt.print(" numbers")?;
     for number in memory.numbers.iter() {
@@ -127,30 +182,25 @@ fn profile<K: Digested, R: Print>(
 }
 
 // Finds, with finding and work memory that hold ones before.
-fn find<K: Digested, R: Print>(
+fn find<K: Written, R: Print + AllocGlobal>(
     rt: &R,
-    heap: Global,
     open: Open<K>,
     memory: &mut Memory<K>,
-    fields: &mut Fields<'_>,
+    handed: &Sought,
 ) -> io::Result<State<K>> {
-    let words = size(fields);
-    let finding_size = size(fields);
-    let work_size = size(fields);
-    let mut record = memory.record;
-    let mut finding = filled(heap, memory.kind.one(), memory.finding.len())?;
-    let mut work = filled(heap, memory.kind.one(), memory.work)?;
+    let mut work = vec![in rt.alloc(); memory.kind.one(); memory.work]?;
+    for cell in memory.finding.iter_mut() {
+        *cell = memory.kind.one();
+    }
     let answer = open.find(
-        front(memory.words.as_slice(), words),
-        &mut record,
-        front_mut(finding.as_mut_slice(), finding_size),
-        front_mut(work.as_mut_slice(), work_size),
+        front(memory.words.as_slice(), handed.words),
+        &mut memory.record,
+        front_mut(memory.finding.as_mut_slice(), handed.finding),
+        front_mut(work.as_mut_slice(), handed.work),
     );
-    memory.record = record;
-    memory.finding = finding;
     match answer {
         Ok(found) => {
-            print_outcome(rt, Ok(()))?;
+            rt.print("ok")?;
             memory.print_words(rt)?;
             memory.print_leading(rt)?;
             memory.print_record(rt)?;
@@ -158,33 +208,12 @@ fn find<K: Digested, R: Print>(
             Ok(State::Standing(found))
         }
         Err((refusal, open)) => {
-            print_outcome(rt, Err(refusal))?;
+            print!(rt; "refused {refusal}")?;
             memory.print_words(rt)?;
-            print!(rt; " finding {}", digest::<K>(0, memory.finding.as_slice()))?;
+            print!(rt; " finding {}", digest(0, memory.finding.as_slice()))?;
             memory.print_record(rt)?;
-            println!(rt; " work {}", digest::<K>(0, work.as_slice()))?;
+            println!(rt; " work {}", digest(0, work.as_slice()))?;
             Ok(State::Taking(open))
         }
     }
-}
-
-pub fn open_call<K: Digested, R: Print>(
-    rt: &R,
-    heap: Global,
-    open: Open<K>,
-    memory: &mut Memory<K>,
-    word: &str,
-    fields: &mut Fields<'_>,
-) -> io::Result<State<K>> {
-    let mut open = open;
-    match word {
-        "feed" => feed(rt, heap, &mut open, memory, fields)?,
-        "draw" => draw(rt, heap, &mut open, memory, fields)?,
-        "back" => take_back(rt, &mut open, memory, fields)?,
-        "profile" => profile(rt, heap, &mut open, memory, fields)?,
-        "find" => return find(rt, heap, open, memory, fields),
-        "words" => memory.put_word(rt, fields)?,
-        _ => rt.println("unreadable")?,
-    }
-    Ok(State::Taking(open))
 }

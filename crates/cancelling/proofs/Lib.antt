@@ -1,3 +1,4 @@
-mod Rooms
+mod Trials
 mod Verdicts
 mod Normals
+mod Lasts

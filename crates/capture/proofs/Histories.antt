@@ -7,7 +7,7 @@ use Rattle.recurrence.specs.declared.shape.Level.{Level}
 use Rattle.recurrence.specs.Polynomials.{Lawful}
 use Rattle.recurrence.specs.Words.{words}
 use Rattle.recurrence.specs.Findings.{Finding}
-use Rattle.memory.proofs.Elements.{stable}
+use Rattle.recurrence.proofs.Elements.{stable}
 use Rattle.recurrence.specs.Lent.{ShortWords, ForeignWords, ShortFinding}
 use Rattle.capture.specs.declared.Open.{Open}
 use Rattle.capture.specs.declared.Found.{Found}

@@ -12,7 +12,7 @@ use Rattle.recurrence.specs.Words.{words, LawfulWords}
 use Rattle.recurrence.specs.Findings.{run_of}
 use Rattle.recurrence.specs.Theorems.{Stands as Theory}
 use Rattle.recurrence.proofs.Findings.{rows_shortest, finding_foretells}
-use Rattle.memory.proofs.Elements.{stable}
+use Rattle.recurrence.proofs.Elements.{stable}
 use Rattle.recurrence.specs.Lent.{ForeignWords}
 use Rattle.remainder.specs.Calls.{Tried}
 use Rattle.continuation.specs.Calls.{RanOn}

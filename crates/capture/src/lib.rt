@@ -10,8 +10,11 @@ ghost use Rattle.capture.specs.Calls.{Opened, TookBack, Reopened, Fed, Drew, Pro
 ghost use Rattle.capture.specs.Main.{Stands, Find, FindKeeps, Try, TryKeeps, RunOn, RunOnKeeps};
 
 use annihilator::find;
+use continuation::run_on;
+use judging::Finding;
 use memory::{all_lawful, put};
 use recurrence::{Count, Record, Shape};
+use remainder::try_on;
 use ring::{Kind, Refusal};
 use sources::{Source, draw};
 
@@ -40,8 +43,7 @@ impl<K: Kind> Open<K> {
         if n < 1 || n > 4 {
             return Err(Refusal::Channels);
         }
-        let room = words.len() / n;
-        let capacity = if room < MOST { room } else { MOST };
+        let capacity = MOST.min(words.len() / n);
         Ok(Open {
             kind,
             shape: Shape {
@@ -77,7 +79,7 @@ impl<K: Kind> Open<K> {
         if self.shape.count.words >= self.shape.capacity {
             return Err(Refusal::Full);
         }
-        if !all_lawful(&self.kind, word, word.len()) {
+        if !all_lawful(&self.kind, word) {
             return Err(Refusal::Foreign);
         }
         put(words, self.shape.count.words * n, word);
@@ -227,18 +229,31 @@ impl<K: Kind> Found<K> {
         Open { kind, shape }
     }
 
+    // What is handed in as the finding of this capture.
+    fn finding<'f>(&self, record: &'f Record, cells: &'f [K::Elem]) -> Finding<'f, K>
+        ensures capture { (result.kind ≡ self.now.kind) × (result.shape ≡ self.now.shape) }
+        ensures finding { (result.«record».now ≡ «record».now) × (result.cells.now ≡ cells.now) }
+    {
+        Finding {
+            kind: self.kind,
+            shape: self.shape,
+            record,
+            cells,
+        }
+    }
+
     // Whether the words held number at least twice the length at level 0.
     pub fn settled(&self, record: &Record, finding: &[K::Elem]) -> Result<bool, Refusal>
         ensures { AskedSettled (K.Kind.ring self.now.kind) self.now.shape «record».now.levels finding.now result }
     {
-        judging::settled(&self.kind, &self.shape, record, finding)
+        self.finding(record, finding).settled()
     }
 
     // Whether the lowest coefficient of the polynomial of level 0 is not zero.
     pub fn can_be_run_back(&self, record: &Record, finding: &[K::Elem]) -> Result<bool, Refusal>
         ensures { AskedRunBack (K.Kind.ring self.now.kind) self.now.shape «record».now.levels finding.now result }
     {
-        judging::can_be_run_back(&self.kind, &self.shape, record, finding)
+        self.finding(record, finding).can_be_run_back()
     }
 
     // Reduces a polynomial in the memory it lies in, and answers how many coefficients are left.
@@ -251,7 +266,7 @@ impl<K: Kind> Found<K> {
         ensures { Try K.Kind.ring self.now «record».now.levels finding.now polynomial.old result polynomial.new }
     {
         promises_stand(&self.kind);
-        remainder::try_on(&self.kind, &self.shape, record, finding, polynomial)
+        try_on(&self.finding(record, finding), polynomial)
     }
 
     // Fills the buffer with the run's words from the first that is not held on, each channel by channel.
@@ -266,7 +281,7 @@ impl<K: Kind> Found<K> {
             buffer.new }
     {
         promises_stand(&self.kind);
-        continuation::run_on(&self.kind, &self.shape, words, record, finding, buffer)
+        run_on(&self.finding(record, finding), words, buffer)
     }
 }
 

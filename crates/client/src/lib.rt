@@ -28,14 +28,12 @@ pub fn foresee<K: Kind, S: Source<K>>(
     open.take_back(1)?;
     open.draw(words, source, m)?;
     let _refused = open.take_back(129);
-    match open.find(words, record, finding, work) {
-        Ok(found) => {
-            let again = found.reopen();
-            match again.find(words, record, finding, work) {
-                Ok(found) => found.run_on(words, record, finding, next),
-                Err((refusal, _open)) => Err(refusal),
-            }
-        }
-        Err((refusal, _open)) => Err(refusal),
-    }
+    let found = open
+        .find(words, record, finding, work)
+        .map_err(|(refusal, _)| refusal)?;
+    let found = found
+        .reopen()
+        .find(words, record, finding, work)
+        .map_err(|(refusal, _)| refusal)?;
+    found.run_on(words, record, finding, next)
 }

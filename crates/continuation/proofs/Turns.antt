@@ -1,5 +1,5 @@
 -- The turns of a continuation.
-use Rattle.std.proofs.Common.{◌≡◌, ℕ, ◌+◌, ◌-◌, ◌*◌, ◌/◌, ◌%◌, ◌<◌, ◌≤◌, Bool, cond, T, ltb, ◌≢◌, List, length, set, sym, ap, ◌∙◌, subst, ap₂, arith, get_or-set_other, get_or-set_same, below_more, le-ltb, lt-ltb}
+use Rattle.std.proofs.Common.{◌≡◌, ℕ, ◌+◌, ◌-◌, ◌*◌, ◌<◌, ◌≤◌, Bool, cond, T, ltb, List, sym, ap, ◌∙◌, subst, ap₂, arith, le-ltb, lt-ltb}
 use native.Mathlib.Decide.{dec_lt}
 use lib.Arith.{digits_lt, digits_div, digits_mod}
 use Rattle.ring.specs.Ring.{Ring, Laws, sum}
@@ -7,13 +7,20 @@ use Rattle.ring.proofs.Lifts as Lifts
 use Rattle.ring.proofs.Loops.{Added, lawful_at}
 use Rattle.recurrence.specs.declared.shape.Shape.{Shape}
 use Rattle.recurrence.specs.Memory.{at}
-use Rattle.recurrence.specs.Words.{place, words, run}
+use Rattle.recurrence.specs.Polynomials.{Lawful}
+use Rattle.recurrence.specs.Words.{words, LawfulWords, run}
 use Rattle.recurrence.proofs.Continuations as Continuations
-use Rattle.continuation.specs.Filling.{Ready, Filled}
+use Rattle.continuation.specs.Filling.{Filled}
 
 -- the terms of channel c of word e + t
 abbrev pub terms : {E : Type 0} → Ring E → Shape → List E → ℕ → (ℕ → E) → ℕ → ℕ → ℕ → E
 terms R s ws D p c t j = R.mul (p j) (run R s.count.words (words R s ws) D p c (s.count.words + t - D + j))
+
+-- the words held are lawful, and so is a polynomial of degree D, which reads no more of them than there are
+pub record Ready {E : Type 0} (R : Ring E) (s : Shape) (ws : List E) (D : ℕ) (p : ℕ → E) : Type 0 where
+  pub words : LawfulWords R s.channels s.count.words (words R s ws)
+  pub polynomial : Lawful R p
+  pub short : D ≤ s.count.words
 
 module _ {E : Type 0} {R : Ring E} (L : Laws R) (s : Shape) (ws : List E) (D : ℕ) (p : ℕ → E) (ready : Ready R s ws D p) where
   abbrev e : ℕ
@@ -28,7 +35,7 @@ module _ {E : Type 0} {R : Ring E} (L : Laws R) (s : Shape) (ws : List E) (D : �
 
   -- the word that is looked up
   pub looked : (out : List E) (t c j : ℕ) (x : E) → j < D → c < s.channels → Filled R s ws D p out (t * s.channels + c)
-      → x ≡ cond (ltb t (D - j)) (at R ws (place s (e - (D - j - t)) c)) (at R out ((t - (D - j)) * s.channels + c))
+      → x ≡ cond (ltb t (D - j)) (words R s ws c (e - (D - j - t))) (at R out ((t - (D - j)) * s.channels + c))
       → x ≡ w c (e + t - D + j)
   looked out t c j x hj hc filled is = by (dec_lt t (D - j))
     where
@@ -36,7 +43,7 @@ module _ {E : Type 0} {R : Ring E} (L : Laws R) (s : Shape) (ws : List E) (D : �
       short = ready.short
 
       Q : Bool → Type 0
-      Q b = x ≡ cond b (at R ws (place s (e - (D - j - t)) c)) (at R out ((t - (D - j)) * s.channels + c))
+      Q b = x ≡ cond b (words R s ws c (e - (D - j - t))) (at R out ((t - (D - j)) * s.channels + c))
 
       by : Dec (t < D - j) → x ≡ w c (e + t - D + j)
       by (yes h) =
@@ -56,14 +63,3 @@ module _ {E : Type 0} {R : Ring E} (L : Laws R) (s : Shape) (ws : List E) (D : �
       difference (lawful_at L zero L.ring_laws.zero_lawful) added.0
       ∙ ap₂ R.sub zero (added.1 ∙ ap (λ (k : ℕ). sum R k (terms R s ws D p c t)) all)
       ∙ sym (Continuations.run_next R e (words R s ws) D p ready.short c (e + t) (omega arith))
-
-  -- one element more is filled
-  pub filled_more : (out : List E) (q : ℕ) (x : E) → q < length out → x ≡ w (q % s.channels) (e + q / s.channels)
-      → Filled R s ws D p out q → Filled R s ws D p (set out q x) (q + 1)
-  filled_more out q x inside is filled =
-      below_more _ _ (λ j b. let ne : j ≢ q = omega arith in get_or-set_other out q j x R.zero ne ∙ filled j b) (get_or-set_same out q x R.zero inside ∙ is)
-
-  -- the element at word t, channel c
-  pub filled_at : (out : List E) (q t c : ℕ) → Filled R s ws D p out q → c < s.channels → t * s.channels + c < q → at R out (t * s.channels + c) ≡ w c (e + t)
-  filled_at out q t c filled hc h =
-      filled (t * s.channels + c) h ∙ ap₂ (λ (a b : ℕ). w a (e + b)) (digits_mod t hc) (digits_div t hc)

@@ -10,7 +10,7 @@ use Rattle.recurrence.specs.declared.shape.Shape.{Shape}
 use Rattle.recurrence.proofs.Polynomials.{plus}
 use Rattle.recurrence.proofs.Captures.{Capture, value, Counts, Zeros}
 use Rattle.recurrence.proofs.Valuations as Val
-use Rattle.places.specs.Places.{places, capture_of, Row, Scanned}
+use Rattle.places.specs.Places.{capture_of, Row, Scanned}
 use Rattle.rows.specs.Rows.{Holds, Quotient, Lower}
 use Rattle.elimination.specs.Stores.{kept_row, kept_value, kept_level, Kept, Store, StuckAt}
 use Rattle.places.proofs.Values.{chain}
@@ -76,20 +76,10 @@ module _ {E : Type 0} {R : Ring E} (L : Laws R) (shape : Shape) (ws : List E) wh
           ap (value C (plus (lifted L) p ((lifted L).⊖◌ x) g)) e' ∙ Val.value_plus C (chain L shape ws) p g ((lifted L).⊖◌ x) q ∙ Val.cancel_top (lifted L) (value C p q) (value C g q) x whole
 
   -- stuck: what is kept does not divide the value
-  pub stuck_there : (m q : ℕ) (row store : List E) (start : ℕ) (a k : E) → Scanned L shape ws m row start q a → Is L k (kept_value L shape store q) → q < places shape m
-      → Lower L a k → StuckAt L shape ws m row store q
-  stuck_there m q row store start a k scanned ik h less = record {
+  pub stuck_there : (m q : ℕ) (row store : List E) (start : ℕ) (a k : E) → Scanned L shape ws m row start q a → Is L k (kept_value L shape store q) → Lower L a k → StuckAt L shape ws m row store q
+  stuck_there m q row store start a k scanned ik less = record {
     within = scanned.within;
     zeros = scanned.zeros;
     here = scanned.here;
-    less = λ _. subst (λ z. level_of L z < kept_level L shape store q) (Lifts.held L (scanned.is h)) (subst (λ z. level_of L (hold L a) < level_of L z) (Lifts.held L ik) less);
-  }
-
-  -- or the words are cancelled
-  pub stuck_nowhere : (m q : ℕ) (row store : List E) (start : ℕ) (a : E) → Scanned L shape ws m row start q a → q ≡ places shape m → StuckAt L shape ws m row store q
-  stuck_nowhere m q row store start a scanned h = record {
-    within = scanned.within;
-    zeros = scanned.zeros;
-    here = λ b. absurd (omega arith);
-    less = λ b. absurd (omega arith);
+    less = subst (λ z. level_of L z < kept_level L shape store q) (Lifts.held L scanned.is) (subst (λ z. level_of L (hold L a) < level_of L z) (Lifts.held L ik) less);
   }

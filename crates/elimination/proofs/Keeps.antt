@@ -9,7 +9,7 @@ use Rattle.ring.proofs.Lifts as Lifts
 use Rattle.recurrence.specs.declared.shape.Shape.{Shape}
 use Rattle.recurrence.proofs.Captures.{Capture, value}
 use Rattle.recurrence.proofs.Valuations as Val
-use Rattle.places.specs.Places.{capture_of}
+use Rattle.places.specs.Places.{capture_of, Row}
 use Rattle.elimination.specs.Stores.{Kept, kept_row, kept_value, kept_level, ToKeep, KeptOne}
 use Rattle.places.proofs.Places.{wide, counts_place, apart}
 use Rattle.elimination.proofs.Parts.{put_below, put_at, put_above, parts_same, part_is_list, put_lawful}
@@ -80,9 +80,9 @@ module _ {E : Type 0} {R : Ring E} (L : Laws R) (shape : Shape) (ws : List E) wh
   row_other q r row old new x w ne = parts_same L new old (r * (e + 2)) (r * (e + 2)) (e + 1) (λ j h. others q r row old new x w ne j (omega arith))
 
   -- the row is kept where its value there is of smaller valuation
-  pub kept_there : (m q : ℕ) (row old new : List E) (x : E) → ToKeep L shape ws m q row old
+  pub kept_there : (m q : ℕ) (row old new : List E) (x : E) → Row L shape ws m row → ToKeep L shape ws m q row old
       → Is L x (value C (cells L row) q) → Written q row old new x → level_of L (value C (cells L row) q) < kept_level L shape old q → KeptOne L shape ws m q row old new
-  kept_there m q row old new x pre is w less = record {
+  kept_there m q row old new x fit pre is w less = record {
     grown = record {
       store = record {
         lawful = w.lawful;
@@ -95,7 +95,7 @@ module _ {E : Type 0} {R : Ring E} (L : Laws R) (shape : Shape) (ws : List E) wh
   }
     where
       row_there : cells L (kept_row L shape new q) ≡ cells L row
-      row_there = part_is_list L new row (q * (e + 2)) (e + 1) pre.row.long w.coefficients
+      row_there = part_is_list L new row (q * (e + 2)) (e + 1) fit.long w.coefficients
 
       value_there : kept_value L shape new q ≡ value C (cells L row) q
       value_there = Lifts.cell_eq L new _ _ (Lifts.is_same L w.value_is is)
@@ -107,8 +107,8 @@ module _ {E : Type 0} {R : Ring E} (L : Laws R) (shape : Shape) (ws : List E) wh
       kept_at r (yes h) = subst (λ z. Kept L shape ws (suc m) z (cells L (kept_row L shape new z)) (kept_value L shape new z)) (sym h)
           (subst (λ f. Kept L shape ws (suc m) q f (kept_value L shape new q)) (sym row_there)
           (record {
-            below = pre.row.below;
-            zeros = λ t b. pre.zeros t b (omega (arith, Val.div_mono shape.channels t q (wide shape) (omega arith), counts_place shape q m pre.row.small pre.place));
+            below = fit.below;
+            zeros = λ t b. pre.zeros t b (omega (arith, Val.div_mono shape.channels t q (wide shape) (omega arith), counts_place shape q m fit.small pre.place));
             is = value_there;
           }))
       kept_at r (no h) = subst (λ a. Kept L shape ws (suc m) r (cells L (kept_row L shape new r)) a) (sym (value_other q r row old new x w h))

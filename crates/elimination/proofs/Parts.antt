@@ -3,7 +3,7 @@ use Rattle.std.proofs.Common.{◌≡◌, ℕ, ◌+◌, ◌-◌, ◌<◌, ◌≤�
 use mathlib.Core.Path.{fun_ext}
 use native.Mathlib.Decide.{dec_lt}
 use borrow.Rule.Slice.PartMut.{put_mid}
-use Rattle.std.proofs.lemmas.List.{get_or_past, get_or_append_left, get_or-append_right}
+use Rattle.std.proofs.lemmas.List.{get_or_append_left, get_or-append_right}
 use Rattle.ring.specs.Ring.{Ring, Laws}
 use Rattle.ring.specs.Lawful.{lifted, cells, AllLawful}
 use Rattle.ring.proofs.Lifts as Lifts
@@ -30,14 +30,6 @@ module _ {E : Type 0} {R : Ring E} (L : Laws R) where
 
   pub part_none : (xs : List E) (a m j : ℕ) → m ≤ j → cells L (take m (drop a xs)) j ≡ (lifted L).𝟘
   part_none xs a m j h = Lifts.cells_past L (take m (drop a xs)) j (omega (arith, length-take m (drop a xs)))
-
-  -- a part of lawful cells
-  pub part_lawful : (xs : List E) (a m : ℕ) → AllLawful L xs → AllLawful L (take m (drop a xs))
-  part_lawful xs a m all j = at (dec_lt j m)
-    where
-      at : Dec (j < m) → T (R.lawful (get_or (take m (drop a xs)) j R.zero))
-      at (yes h) = subst (λ z. T (R.lawful z)) (sym (get_or-take m (drop a xs) j R.zero h ∙ get_or-drop a xs j R.zero)) (all (a + j))
-      at (no h) = subst (λ z. T (R.lawful z)) (sym (get_or_past (take m (drop a xs)) j R.zero (omega (arith, length-take m (drop a xs))))) L.ring_laws.zero_lawful
 
   -- two parts with the same elements
   pub parts_same : (xs ys : List E) (a b m : ℕ) → ((j : ℕ) → j < m → get_or xs (a + j) R.zero ≡ get_or ys (b + j) R.zero) → cells L (take m (drop a xs)) ≡ cells L (take m (drop b ys))

@@ -4,75 +4,49 @@
 
 ghost use Rattle.elimination.specs.Stores.{ToEliminate, Eliminated, ToKeep, KeptOne};
 
-use places::{first_nonzero, place_count, row_start, value_at};
-use recurrence::Shape;
+use memory::Words;
+use places::{Polynomial, row_start};
 use ring::Kind;
 use rows::{quotient, sub_scaled};
 
-// Takes multiples of what is kept from the polynomial in row, of this degree and zero before the place `start`, until it cancels the words or is stuck: where.
+// Takes multiples of what is kept from the polynomial in row, of this degree and zero before the place `start`, until it is stuck: at which place. None if it cancels the words.
 pub fn eliminate<K: Kind>(
-    kind: &K,
-    shape: Shape,
-    words: &[K::Elem],
+    words: &Words<K>,
     store: &[K::Elem],
     row: &mut [K::Elem],
     degree: usize,
     start: usize,
-) -> usize
-    requires { ToEliminate (K.laws kind.now) shape words.now degree start row.old store.now }
-    ensures { Eliminated (K.laws kind.now) shape words.now degree row.old row.new store.now result }
+) -> Option<usize>
+    requires { ToEliminate (K.laws words.now.kind) words.now.shape words.now.cells.now degree start row.old store.now }
+    ensures { Eliminated (K.laws words.now.kind) words.now.shape words.now.cells.now degree row.old row.new store.now result }
 {
-    let end = place_count(shape, degree);
     let mut q = start;
-    loop {
-        let (at, value) = first_nonzero(kind, shape, words, row, degree, q);
-        if at == end {
-            return at;
-        }
-        let a = row_start(
-            at,
-            shape.count.words + 2,
-            shape.count.words * shape.channels,
-            store.len(),
-        );
-        let b = a + (shape.count.words + 1);
-        match quotient(kind, value, store[b]) {
-            None => {
-                return at;
-            }
-            Some(c) => {
-                sub_scaled(kind, row, c, &store[a..b], degree);
-                q = at + 1;
-            }
-        }
+    while let Some(first) = (Polynomial { words, row, degree }).first_nonzero(q) {
+        let (at, value) = first;
+        let a = row_start(at, words.shape.count.words + 2, words.places(), store.len());
+        let b = a + (words.shape.count.words + 1);
+        let Some(c) = quotient(&words.kind, value, store[b]) else {
+            return Some(at);
+        };
+        sub_scaled(&words.kind, row, c, &store[a..b], degree);
+        q = at + 1;
     }
+    None
 }
 
-// Keeps the polynomial in row, of this degree and zero before the place q, for q, if its value there has a smaller valuation than what is kept has.
-pub fn keep<K: Kind>(
-    kind: &K,
-    shape: Shape,
-    words: &[K::Elem],
-    store: &mut [K::Elem],
-    row: &[K::Elem],
-    degree: usize,
-    q: usize,
-)
-    requires { ToKeep (K.laws kind.now) shape words.now degree q row.now store.old }
-    ensures { KeptOne (K.laws kind.now) shape words.now degree q row.now store.old store.new }
+// Keeps the polynomial, which is zero before the place q, for q, if its value there has a smaller valuation than what is kept has.
+pub fn keep<K: Kind>(store: &mut [K::Elem], polynomial: &Polynomial<K>, q: usize)
+    requires { ToKeep (K.laws polynomial.now.words.now.kind) polynomial.now.words.now.shape polynomial.now.words.now.cells.now polynomial.now.degree q polynomial.now.row.now store.old }
+    ensures { KeptOne (K.laws polynomial.now.words.now.kind) polynomial.now.words.now.shape polynomial.now.words.now.cells.now polynomial.now.degree q polynomial.now.row.now store.old store.new }
 {
-    let a = row_start(
-        q,
-        shape.count.words + 2,
-        shape.count.words * shape.channels,
-        store.len(),
-    );
-    let b = a + (shape.count.words + 1);
-    let value = value_at(kind, shape, words, row, degree, q);
-    let (own, _) = kind.split(value);
-    let (kept, _) = kind.split(store[b]);
+    let words = polynomial.words;
+    let a = row_start(q, words.shape.count.words + 2, words.places(), store.len());
+    let b = a + (words.shape.count.words + 1);
+    let value = polynomial.value_at(q);
+    let (own, _) = words.kind.split(value);
+    let (kept, _) = words.kind.split(store[b]);
     if own < kept {
-        store[a..b].copy_from_slice(row);
+        store[a..b].copy_from_slice(polynomial.row);
         store[b] = value;
     }
 }

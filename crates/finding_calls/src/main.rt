@@ -2,44 +2,44 @@
 #![tactic(auto)]
 
 use continuation::run_on;
-use judging::{can_be_run_back, settled};
-use recurrence::{Count, Level, Record, Shape};
+use judging::Finding;
+use recurrence::{Level, Record, Shape};
 use remainder::try_on;
 use residue::Residue;
 use ring::Refusal;
 use std::io;
+use vectors::{Answer, Failure, yes_or_no};
 
 const WORDS: [u32; 4] = [2, 0, 2, 0];
 
 // y^2 + 3 at level 0, and 2 at level 1.
-const FINDING: [u32; 10] = [3, 0, 1, 0, 0, 2, 0, 0, 0, 0];
+const CELLS: [u32; 10] = [3, 0, 1, 0, 0, 2, 0, 0, 0, 0];
 
 // The same two polynomials for two words.
 const PAIRS: [u32; 6] = [3, 0, 1, 2, 0, 0];
 
 // A table with these lengths at levels 0 and 1.
 fn lengths(first: usize, second: usize) -> Record {
-    let mut levels = [Level {
-        length: 0,
-        found: false,
-    }; 31];
-    levels[0] = Level {
-        length: first,
-        found: true,
-    };
-    levels[1] = Level {
-        length: second,
-        found: true,
-    };
-    Record { levels }
+    let mut table = Record::unfound();
+    table.put(
+        0,
+        Level {
+            length: first,
+            found: true,
+        },
+    );
+    table.put(
+        1,
+        Level {
+            length: second,
+            found: true,
+        },
+    );
+    table
 }
 
 fn print_verdict(rt: &HostRuntime, verdict: Result<bool, Refusal>) -> io::Result<()> {
-    match verdict {
-        Ok(true) => rt.println("yes"),
-        Ok(false) => rt.println("no"),
-        Err(refusal) => println!(rt; "refused {}", refusal.number()),
-    }
+    rt.println(Answer(verdict.map(yes_or_no)))
 }
 
 fn print_all(rt: &HostRuntime, xs: &[u32]) -> io::Result<()> {
@@ -50,80 +50,79 @@ fn print_all(rt: &HostRuntime, xs: &[u32]) -> io::Result<()> {
 }
 
 // What is left of a polynomial.
-fn print_tried(
-    rt: &HostRuntime,
-    kind: &Residue,
-    shape: &Shape,
-    table: &Record,
-    finding: &[u32],
-    f: &mut [u32],
-) -> io::Result<()> {
-    match try_on(kind, shape, table, finding, f) {
+fn print_tried(rt: &HostRuntime, finding: &Finding<'_, Residue>, f: &mut [u32]) -> io::Result<()> {
+    match try_on(finding, f) {
         Ok(n) => {
             print!(rt; "{n} left:")?;
             print_all(rt, f)
         }
-        Err(refusal) => println!(rt; "refused {}", refusal.number()),
+        Err(refusal) => println!(rt; "refused {refusal}"),
     }
 }
 
-// What run on fills a buffer of this many elements with.
-fn print_next(
-    rt: &HostRuntime,
-    kind: &Residue,
-    shape: &Shape,
-    table: &Record,
-    out: &mut [u32],
-) -> io::Result<()> {
-    match run_on(kind, shape, &WORDS, table, &FINDING, out) {
+// What run on fills a buffer of three elements with.
+fn print_next(rt: &HostRuntime, finding: &Finding<'_, Residue>) -> io::Result<()> {
+    let mut out = [9; 3];
+    match run_on(finding, &WORDS, &mut out) {
         Ok(()) => {
             print!(rt; "next:")?;
-            print_all(rt, out)
+            print_all(rt, &out)
         }
-        Err(refusal) => println!(rt; "refused {}", refusal.number()),
+        Err(refusal) => println!(rt; "refused {refusal}"),
     }
 }
 
 // The finding as it is.
-fn answers(rt: &HostRuntime, kind: &Residue, shape: &Shape, table: &Record) -> io::Result<()> {
-    print_verdict(rt, settled(kind, shape, table, &FINDING))?;
-    print_verdict(rt, can_be_run_back(kind, shape, table, &FINDING))?;
-    print_next(rt, kind, shape, table, &mut [9; 3])?;
-    print_tried(rt, kind, shape, table, &FINDING, &mut [3, 2, 0, 1, 0])?;
-    print_tried(rt, kind, shape, table, &FINDING, &mut [2, 0, 0, 2])?;
-    print_tried(rt, kind, shape, table, &FINDING, &mut [])
+fn print_answers(rt: &HostRuntime, finding: &Finding<'_, Residue>) -> io::Result<()> {
+    print_verdict(rt, finding.settled())?;
+    print_verdict(rt, finding.can_be_run_back())?;
+    print_next(rt, finding)?;
+    print_tried(rt, finding, &mut [3, 2, 0, 1, 0])?;
+    print_tried(rt, finding, &mut [2, 0, 0, 2])?;
+    print_tried(rt, finding, &mut [])
+}
+
+// What is handed in as a finding.
+fn handed<'f>(
+    kind: Residue,
+    shape: Shape,
+    record: &'f Record,
+    cells: &'f [u32],
+) -> Finding<'f, Residue> {
+    Finding {
+        kind,
+        shape,
+        record,
+        cells,
+    }
 }
 
 // Short, foreign, stages and span, in their order.
-fn refusals(rt: &HostRuntime, kind: &Residue, shape: &Shape, table: &Record) -> io::Result<()> {
-    print_tried(rt, kind, shape, table, &FINDING[..9], &mut [4])?;
-    print_tried(rt, kind, shape, &lengths(5, 0), &FINDING, &mut [4])?;
-    print_tried(rt, kind, shape, &lengths(5, 0), &FINDING, &mut [0; 257])?;
-    print_tried(rt, kind, shape, &lengths(1, 0), &FINDING, &mut [0; 257])?;
-    print_tried(rt, kind, shape, table, &FINDING, &mut [0; 257])
+fn print_refusals(rt: &HostRuntime, kind: Residue, shape: Shape) -> io::Result<()> {
+    let table = lengths(2, 0);
+    let short = handed(kind, shape, &table, &CELLS[..9]);
+    print_tried(rt, &short, &mut [4])?;
+    let long = lengths(5, 0);
+    let past = handed(kind, shape, &long, &CELLS);
+    print_tried(rt, &past, &mut [4])?;
+    print_tried(rt, &past, &mut [0; 257])?;
+    let low = lengths(1, 0);
+    let turned = handed(kind, shape, &low, &CELLS);
+    print_tried(rt, &turned, &mut [0; 257])?;
+    let finding = handed(kind, shape, &table, &CELLS);
+    print_tried(rt, &finding, &mut [0; 257])
 }
 
-fn main(rt: HostRuntime) -> io::Result<()> {
-    let shape = Shape {
-        channels: 1,
-        capacity: 4,
-        count: Count { words: 4 },
-    };
-    // Two words of two channels: 2 and 2, 0 and 0.
-    let pairs = Shape {
-        channels: 2,
-        capacity: 2,
-        count: Count { words: 2 },
-    };
+fn main(rt: HostRuntime) -> Result<(), Failure> {
+    let kind = Residue::new(2, 2)?;
+    let shape = Shape::full(1, 4)?;
     let table = lengths(2, 0);
-    match Residue::new(2, 2) {
-        Ok(kind) => {
-            answers(&rt, &kind, &shape, &table)?;
-            refusals(&rt, &kind, &shape, &table)?;
-            print_verdict(&rt, settled(&kind, &pairs, &table, &PAIRS))?;
-            print_tried(&rt, &kind, &pairs, &table, &PAIRS, &mut [0; 257])?;
-            print_next(&rt, &kind, &pairs, &table, &mut [9; 3])
-        }
-        Err(refusal) => println!(rt; "refused {}", refusal.number()),
-    }
+    print_answers(&rt, &handed(kind, shape, &table, &CELLS))?;
+    print_refusals(&rt, kind, shape)?;
+    // Two words of two channels: 2 and 2, 0 and 0.
+    let pairs = handed(kind, Shape::full(2, 2)?, &table, &PAIRS);
+    print_verdict(&rt, pairs.settled())?;
+    print_tried(&rt, &pairs, &mut [0; 257])?;
+    print_next(&rt, &pairs)?;
+    Ok(())
 }

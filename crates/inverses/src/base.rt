@@ -2,7 +2,7 @@
 ghost use Rattle.std.specs.Prelude.{◌≡◌, T};
 ghost use Rattle.inverses.specs.Bases.{listed, start as start_of};
 
-#[derive(Clone, Copy)]
+#[derive(Clone, Copy, Debug, PartialEq, Eq)]
 pub struct Base {
     pub value: u32,
     // Where the inverses of its remainders begin in the table.

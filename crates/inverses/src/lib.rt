@@ -34,7 +34,7 @@ impl Base {
         ensures { Inverse self.value r result }
     {
         if r < self.value {
-            INVERSES[self.start + r as usize] as u32
+            u32::from(INVERSES[self.start + r as usize])
         } else {
             0
         }
@@ -45,6 +45,6 @@ impl Base {
         ensures yes { T result → self ≡ other }
         ensures only { self ≡ other → T result }
     {
-        self.value == other.value
+        self == other
     }
 }

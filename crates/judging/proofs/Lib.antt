@@ -1,3 +1,3 @@
-pub mod Elements
+pub mod Powers
 pub mod Forms
 pub mod Judges

@@ -3,109 +3,104 @@
 
 ghost use Rattle.std.specs.Prelude.{◌≡◌, ◌+◌, ◌*◌, ◌<◌, ◌≤◌, T, ◌↔◌, length, take, drop};
 ghost use Rattle.ring.specs.Refusals.{Call};
-ghost use Rattle.recurrence.specs.Memory.{Unlawful};
-ghost use Rattle.recurrence.specs.Findings.{extent, Formed};
+ghost use Rattle.recurrence.specs.Memory.{at, Unlawful};
+ghost use Rattle.recurrence.specs.Polynomials.{Lawful};
+ghost use Rattle.recurrence.specs.Findings.{extent, long, Formed};
 ghost use Rattle.judging.specs.Calls.{AskedSettled, AskedRunBack};
-ghost use Rattle.judging.specs.Judging.{Sound, judging};
+ghost use Rattle.judging.specs.Judging.{judging};
 
+mod finding;
+mod sound;
+
+pub use finding::Finding;
 use memory::all_lawful;
-use recurrence::{Record, Shape};
-use ring::{Kind, Refusal, is_zero};
+use ring::{Kind, Refusal, is_equal, is_zero};
+pub use sound::Sound;
 
-// Whether two lawful elements are one.
-fn equal<K: Kind>(kind: &K, a: K::Elem, b: K::Elem) -> bool
-    ensures { T ((K.Kind.ring kind.now).lawful a) → T ((K.Kind.ring kind.now).lawful b) → T result ↔ (a ≡ b) }
-{
-    is_zero(kind, kind.sub(a, b))
-}
-
-// The part of a finding with the polynomial of a level. Its callers have found room for it.
-pub fn row_of<'a, E>(shape: &Shape, finding: &'a [E], level: usize, degree: usize) -> &'a [E]
-    requires low { level < 31 }
-    requires short { degree ≤ shape.now.count.words }
-    requires room { level * (shape.now.count.words + 1) + degree < length finding.now }
-    ensures is { result.now ≡ take (degree + 1) (drop (level * (shape.now.count.words + 1)) finding.now) }
-    ensures long { length result.now ≡ degree + 1 }
-{
-    let start = level * (shape.count.words + 1);
-    let end = start + degree + 1;
-    &finding[start..end]
-}
-
-// Whether a finding of lawful elements is in form.
-fn formed<K: Kind>(kind: &K, shape: &Shape, table: &Record, finding: &[K::Elem]) -> bool
-    requires room { extent (K.Kind.ring kind.now) shape.now.count.words ≤ length finding.now }
-    requires lawful { Unlawful (K.Kind.ring kind.now) finding.now (extent (K.Kind.ring kind.now) shape.now.count.words) → ⊥ }
-    ensures { T result ↔ Formed (K.Kind.ring kind.now) shape.now.count.words table.now.levels finding.now }
-{
-    let step = kind.step();
-    let mut power = kind.one();
-    for i in 0..kind.depth() {
-        let level = table.levels[i];
-        if level.length > shape.count.words {
-            return false;
+impl<'f, K: Kind> Finding<'f, K> {
+    // Whether a finding of lawful elements is in form.
+    fn formed(&self) -> bool
+        requires room { extent (K.ring self.now.kind) self.now.shape.count.words ≤ length self.now.cells.now }
+        requires lawful { Unlawful (K.ring self.now.kind) self.now.cells.now (extent (K.ring self.now.kind) self.now.shape.count.words) → ⊥ }
+        ensures { T result ↔ Formed (K.ring self.now.kind) self.now.shape.count.words self.now.«record».now.levels self.now.cells.now }
+    {
+        let words = self.shape.count.words;
+        let cells = self.cells;
+        let levels = &self.record.levels[..self.kind.depth()];
+        let step = self.kind.step();
+        let mut power = self.kind.one();
+        for (i, level) in levels.iter().enumerate() {
+            if level.length > words || !level.found {
+                return false;
+            }
+            let leading = cells[i * (words + 1) + level.length];
+            if !is_equal(&self.kind, leading, power) {
+                return false;
+            }
+            power = self.kind.mul(power, step);
         }
-        if !level.found {
-            return false;
+        true
+    }
+
+    // Refuses a finding that is short, has an element that is not lawful or is not in form. `lawful` tells whether all else that the call reads is lawful.
+    pub fn judge(&self, lawful: bool) -> Result<Sound<'f, K>, Refusal>
+        ensures { Call (judging (K.ring self.now.kind) self.now.shape self.now.«record».now.levels self.now.cells.now lawful) result
+            (λ s. (s.kind ≡ self.now.kind) × (s.shape ≡ self.now.shape) × (s.«record».now ≡ self.now.«record».now) × (s.cells.now ≡ self.now.cells.now)) (Unit {0}) }
+    {
+        let size = self.kind.depth() * (self.shape.count.words + 1);
+        if self.cells.len() < size {
+            return Err(Refusal::Short);
         }
-        let row = row_of(shape, finding, i, level.length);
-        if !equal(kind, row[level.length], power) {
-            return false;
+        if !lawful || !all_lawful(&self.kind, &self.cells[..size]) {
+            return Err(Refusal::Foreign);
         }
-        power = kind.mul(power, step);
+        if !self.formed() {
+            return Err(Refusal::Stages);
+        }
+        Ok(Sound {
+            kind: self.kind,
+            shape: self.shape,
+            record: self.record,
+            cells: self.cells,
+        })
     }
-    true
+
+    // Whether a finding is settled: at least twice as many words are held as its level 0 is long.
+    pub fn settled(&self) -> Result<bool, Refusal>
+        ensures { AskedSettled (K.ring self.now.kind) self.now.shape self.now.«record».now.levels self.now.cells.now result }
+    {
+        let sound = self.judge(true)?;
+        Ok(sound.length(0) <= self.shape.count.words / 2)
+    }
+
+    // Whether a finding can be run back: the lowest coefficient of its level 0 is not zero.
+    pub fn can_be_run_back(&self) -> Result<bool, Refusal>
+        ensures { AskedRunBack (K.ring self.now.kind) self.now.shape self.now.«record».now.levels self.now.cells.now result }
+    {
+        let row = self.judge(true)?.row(0);
+        Ok(!is_zero(&self.kind, row[0]))
+    }
 }
 
-// Refuses a finding that is short, has an element that is not lawful or is not in form. `lawful` tells whether all else that the call reads is lawful.
-pub fn judge<K: Kind>(
-    kind: &K,
-    shape: &Shape,
-    table: &Record,
-    finding: &[K::Elem],
-    lawful: bool,
-) -> Result<(), Refusal>
-    ensures { Call (judging (K.Kind.ring kind.now) shape.now table.now.levels finding.now lawful) result (λ _. Sound (K.Kind.ring kind.now) shape.now table.now.levels finding.now) (Unit {0}) }
-{
-    let size = kind.depth() * (shape.count.words + 1);
-    if finding.len() < size {
-        return Err(Refusal::Short);
+impl<'f, K: Kind> Sound<'f, K> {
+    // The length of a level. For the crates above, which name levels below the depth.
+    pub fn length(&self, level: usize) -> usize
+        requires { level < (K.ring self.now.kind).depth }
+        ensures is { result ≡ long self.now.«record».now.levels level }
+        ensures short { result ≤ self.now.shape.count.words }
+    {
+        self.record.levels[level].length
     }
-    if !lawful {
-        return Err(Refusal::Foreign);
-    }
-    if !all_lawful(kind, finding, size) {
-        return Err(Refusal::Foreign);
-    }
-    if !formed(kind, shape, table, finding) {
-        return Err(Refusal::Stages);
-    }
-    Ok(())
-}
 
-// Whether a finding is settled: at least twice as many words are held as its level 0 is long.
-pub fn settled<K: Kind>(
-    kind: &K,
-    shape: &Shape,
-    table: &Record,
-    finding: &[K::Elem],
-) -> Result<bool, Refusal>
-    ensures { AskedSettled (K.Kind.ring kind.now) shape.now table.now.levels finding.now result }
-{
-    judge(kind, shape, table, finding, true)?;
-    Ok(table.levels[0].length <= shape.count.words / 2)
-}
-
-// Whether a finding can be run back: the lowest coefficient of its level 0 is not zero.
-pub fn can_be_run_back<K: Kind>(
-    kind: &K,
-    shape: &Shape,
-    table: &Record,
-    finding: &[K::Elem],
-) -> Result<bool, Refusal>
-    ensures { AskedRunBack (K.Kind.ring kind.now) shape.now table.now.levels finding.now result }
-{
-    judge(kind, shape, table, finding, true)?;
-    let row = row_of(shape, finding, 0, table.levels[0].length);
-    Ok(!is_zero(kind, row[0]))
+    // The part of the finding with the polynomial of a level. For the crates above, which name levels below the depth.
+    pub fn row(&self, level: usize) -> &'f [K::Elem]
+        requires { level < (K.ring self.now.kind).depth }
+        ensures is { result.now ≡ take (long self.now.«record».now.levels level + 1) (drop (level * (self.now.shape.count.words + 1)) self.now.cells.now) }
+        ensures long { length result.now ≡ long self.now.«record».now.levels level + 1 }
+        ensures lawful { Lawful (K.ring self.now.kind) (at (K.ring self.now.kind) result.now) }
+    {
+        let start = level * (self.shape.count.words + 1);
+        let end = start + self.length(level) + 1;
+        &self.cells[start..end]
+    }
 }

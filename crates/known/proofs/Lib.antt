@@ -2,4 +2,3 @@ pub mod Tests
 pub mod Finite
 pub mod Entries
 pub mod Table
-pub mod Lengths

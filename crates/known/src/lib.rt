@@ -23,9 +23,10 @@ pub fn known_length(row: usize, level: usize) -> usize
     ensures is { result ≡ long (levels_of row) level }
     ensures yields { Known }
 {
-    if row < 9 && level < 2 {
-        LENGTHS[row][level]
-    } else {
-        0
-    }
+    LENGTHS
+        .get(row)
+        .unwrap_or(&[0, 0])
+        .get(level)
+        .copied()
+        .unwrap_or(0)
 }

@@ -1,23 +1,22 @@
 -- What a round does to one level.
-use Rattle.std.proofs.Common.{◌≡◌, ℕ, zero, suc, ◌+◌, ◌-◌, ◌*◌, ◌<◌, ◌≤◌, Bool, true, false, T, eqb, List, length, sym, refl, ap, ◌∙◌, subst, arith, eqb-true}
+use Rattle.std.proofs.Common.{◌≡◌, ℕ, zero, suc, ◌+◌, ◌-◌, ◌*◌, ◌<◌, ◌≤◌, Bool, true, false, T, List, length, sym, refl, ap, ◌∙◌, subst, arith}
 use mathlib.Core.Path.{fun_ext}
-use native.Mathlib.Decide.{dec_lt, ℕ_discrete}
-use borrow.Author.Tests.{eqb-false}
+use native.Mathlib.Decide.{dec_lt}
 use Rattle.ring.specs.Ring.{Ring, Laws}
 use Rattle.ring.specs.Lawful.{Lawful, lifted, cells}
 use Rattle.recurrence.specs.declared.shape.Shape.{Shape}
 use Rattle.recurrence.specs.declared.shape.Level.{Level}
 use Rattle.recurrence.specs.Findings.{blank}
 use Rattle.recurrence.proofs.Polynomials.{shift}
-use Rattle.recurrence.proofs.Captures.{Capture, Monic, value, Counts, Zeros, First}
+use Rattle.recurrence.proofs.Captures.{Capture, Monic, value, Counts, Zeros}
 use Rattle.recurrence.proofs.Completes as Completes
-use Rattle.places.specs.Places.{places, capture_of, Held}
+use Rattle.places.specs.Places.{places, capture_of, Row}
 use Rattle.rows.specs.Rows.{Holds, constant}
-use Rattle.elimination.specs.Stores.{Store, kept_level, kept_value, ToEliminate, Eliminated, ToKeep}
+use Rattle.elimination.specs.Stores.{Store, kept_level, kept_value, StuckAt, ToEliminate}
 use Rattle.places.proofs.Places.{row_next, counts_place, place_counts}
 use Rattle.places.proofs.Values.{chain, valued_level}
 use Rattle.rows.proofs.Scalings.{holds_cells, holds_lawful}
-use Rattle.levels.specs.Levels.{Open, Stopped, Before, After, Less}
+use Rattle.levels.specs.Levels.{Found, Open, Stopped, Before, After}
 use Rattle.levels.specs.Rounds.{Whole}
 use Rattle.levels.proofs.Shifts as Shifts
 
@@ -37,56 +36,46 @@ module _ {E : Type 0} {R : Ring E} (L : Laws R) (shape : Shape) (ws : List E) wh
   pub level_bound : (store : List E) (q : ℕ) → kept_level L shape store q ≤ R.depth
   level_bound store q = (L.splits (kept_value L shape store q).0 (kept_value L shape store q).1).2.low
 
-  -- the level after degree s, by the place where its polynomial is stuck
-  abbrev pub ended : ℕ → ℕ → ℕ → Level
-  ended s end place = record { length = s; found = eqb place end }
-
   -- what an open level gives to the elimination
-  pub to_eliminate : (s i place : ℕ) (row store : List E) → Held L shape ws → s ≤ e → length row ≡ e + 1 → Store L shape ws s store → Open L shape ws s i row place → ToEliminate L shape ws s place row store
-  to_eliminate s i place row store held small long kept op = record {
-    held = held;
+  pub to_eliminate : (s i place : ℕ) (row store : List E) → s ≤ e → length row ≡ e + 1 → Store L shape ws s store → Open L shape ws s i row place → ToEliminate L shape ws s place row store
+  to_eliminate s i place row store small long kept op = record {
     row = record { lawful = op.lawful; long = long; small = small; below = op.monic.below };
     kept = kept;
     start = op.within;
     zeros = op.zeros;
   }
 
-  module _ (s i q place end : ℕ) (row new store : List E) (small : s ≤ e) (whole : Whole L shape ws s store) (op : Open L shape ws s i row place)
-      (gone : Eliminated L shape ws s row new store q) (at_end : end ≡ places shape s) where
+  module _ (s i place : ℕ) (row new store : List E) (small : s ≤ e) (whole : Whole L shape ws s store) (op : Open L shape ws s i row place)
+      (fit : Row L shape ws s new) (top : cells L new s ≡ cells L row s) where
     monic : Monic C i s (cells L new)
-    monic = record { below = gone.row.below; top = gone.top ∙ op.monic.top }
+    monic = record { below = fit.below; top = top ∙ op.monic.top }
 
-    inside : eqb q end ≡ false → q < places shape s
-    inside h = at (ℕ_discrete q end)
-      where
-        at : Dec (q ≡ end) → q < places shape s
-        at (yes k) = absurd (eqb-false q end h k)
-        at (no k) = omega (arith, gone.stuck.within)
-
-    first_of : q < places shape s → First C s q (cells L new)
-    first_of h = record { counts = counts_place shape q s small h; zeros = gone.stuck.zeros; here = gone.stuck.here h }
-
-    pub reduced : After L shape ws s i new (ended s end q) q
-    reduced = record {
-      done = λ h. record {
-        lawful = gone.row.lawful;
-        answer = Completes.answered C (chain L shape ws) i s (cells L new) monic
-            (λ r counts. gone.stuck.zeros r (omega (arith, eqb-true q end h, place_counts shape r s small counts)) counts) op.none;
+    -- it cancels the words
+    pub reduced_found : (level : Level) (q : ℕ) → level ≡ record { length = s; found = true } → Zeros C s (places shape s) (cells L new) → After L shape ws s i new level q
+    reduced_found level q is zeros = record {
+      done = λ _. subst (Found L shape ws s i new) (sym (ap (λ l. l.length) is)) (record {
+        lawful = fit.lawful;
+        answer = Completes.answered C (chain L shape ws) i s (cells L new) monic (λ r counts. zeros r (place_counts shape r s small counts) counts) op.none;
         small = omega arith;
-      };
-      stopped = λ h. let lt = inside h in record {
-        lawful = gone.row.lawful;
-        monic = monic;
-        within = lt;
-        zeros = gone.stuck.zeros;
-        here = gone.stuck.here lt;
-        none = Completes.none_here C (chain L shape ws) s (kept_level L shape store) (level_bound store) whole i (cells L new) monic q _
-            (first_of lt) (valued_level L shape ws (value C (cells L new) q)) (gone.stuck.less lt) op.none;
-      };
+      });
+      stopped = λ h. absurd (not_both (ap (λ l. l.found) is) h);
     }
 
-    pub reduced_less : Less L shape ws new (ended s end q) q store
-    reduced_less h = gone.stuck.less (inside h)
+    -- it is stuck
+    pub reduced_stuck : (level : Level) (q : ℕ) → level.found ≡ false → StuckAt L shape ws s new store q → After L shape ws s i new level q
+    reduced_stuck level q going stuck = record {
+      done = λ h. absurd (not_both h going);
+      stopped = λ _. record {
+        lawful = fit.lawful;
+        monic = monic;
+        within = stuck.within;
+        zeros = stuck.zeros;
+        here = stuck.here;
+        none = Completes.none_here C (chain L shape ws) s (kept_level L shape store) (level_bound store) whole i (cells L new) monic q _
+            (record { counts = counts_place shape q s small stuck.within; zeros = stuck.zeros; here = stuck.here })
+            (valued_level L shape ws (value C (cells L new) q)) stuck.less op.none;
+      };
+    }
 
   -- a level found stays as it is
   pub found_after : (s i place : ℕ) (row : List E) (level : Level) → level.found ≡ true → Before L shape ws s i row level place → After L shape ws s i row level place
@@ -96,16 +85,6 @@ module _ {E : Type 0} {R : Ring E} (L : Laws R) (shape : Shape) (ws : List E) wh
   found_before s i place row level found after = record {
     done = λ h. let f = after.done h in record { lawful = f.lawful; answer = f.answer; small = omega (arith, f.small) };
     going = λ h. absurd (not_both found h);
-  }
-
-  -- what a stuck level gives to the store
-  pub to_keep : (s i place : ℕ) (row store : List E) → Held L shape ws → s ≤ e → length row ≡ e + 1 → Store L shape ws (suc s) store → Stopped L shape ws s i row place → ToKeep L shape ws s place row store
-  to_keep s i place row store held small long kept st = record {
-    held = held;
-    row = record { lawful = st.lawful; long = long; small = small; below = st.monic.below };
-    kept = kept;
-    place = st.within;
-    zeros = st.zeros;
   }
 
   -- there is room for the next degree

@@ -1,5 +1,5 @@
 -- The store stays complete over a whole round.
-use Rattle.std.proofs.Common.{◌≡◌, ℕ, suc, ◌+◌, ◌-◌, ◌*◌, ◌<◌, ◌≤◌, Bool, true, false, ◌≢◌, List, length, get_or, set, replicate, sym, refl, ◌∙◌, subst, inl, inr, arith, length-set}
+use Rattle.std.proofs.Common.{◌≡◌, ℕ, suc, ◌+◌, ◌-◌, ◌*◌, ◌<◌, ◌≤◌, Bool, true, false, List, length, get_or, replicate, sym, refl, ◌∙◌, subst, inl, inr, arith}
 use native.Mathlib.Decide.{dec_lt}
 use Rattle.std.proofs.lemmas.List.{get_or-replicate, length-replicate, get_or_past}
 use Rattle.ring.specs.Ring.{Ring, Laws}
@@ -19,10 +19,11 @@ use Rattle.places.proofs.Places.{counts_place}
 use Rattle.places.proofs.Values.{chain, valued_level}
 use Rattle.rows.proofs.Scalings.{clear_lawful, clear_cell}
 use Rattle.elimination.proofs.Parts.{part_cell, part_none}
-use Rattle.levels.specs.Levels.{Found, Stopped, After, Less, Served}
-use Rattle.levels.specs.Rounds.{Whole, Tables}
+use Rattle.levels.specs.Levels.{row_of, Found, Stopped, Before, After, Less, Served}
+use Rattle.levels.specs.Rounds.{Whole, Tables, AllAfter}
 use Rattle.levels.proofs.Levels.{level_bound}
 use Rattle.levels.proofs.Shifts as Shifts
+use Rattle.levels.proofs.Turns.{Turn, turn_done, turn_rest, turned}
 
 pub get_or_same : {A : Type 0} (n i : ℕ) (a : A) → get_or (replicate n a) i a ≡ a
 get_or_same n i a = at (dec_lt i n)
@@ -30,18 +31,6 @@ get_or_same n i a = at (dec_lt i n)
     at : Dec (i < n) → get_or (replicate n a) i a ≡ a
     at (yes h) = get_or-replicate n i a a h
     at (no h) = get_or_past (replicate n a) i a (omega (arith, length-replicate n a))
-
--- the tables with the places of one level written
-pub tables_put : {E : Type 0} {R : Ring E} (L : Laws R) (shape : Shape) (ws : List E) (d i p : ℕ) (fm fm' : List E) (levels levels' : List Level) (places : List ℕ)
-    → length fm' ≡ length fm → length levels' ≡ length levels → ((j : ℕ) → j ≢ i → get_or levels' j blank ≡ get_or levels j blank) → i < d
-    → Tables L shape ws d fm levels places → Tables L shape ws d fm' levels' (set places i p)
-tables_put L shape ws d i p fm fm' levels levels' places size room same h t = record {
-  deep = t.deep;
-  size = t.size ∙ sym size;
-  room = room ∙ t.room;
-  place_room = length-set places i p ∙ t.place_room;
-  rest = λ j b. same j (omega arith) ∙ t.rest j b;
-}
 
 abbrev choice : {A : Type 0} → Bool → A → A → A
 choice true a b = a
@@ -98,15 +87,15 @@ module _ {E : Type 0} {R : Ring E} (L : Laws R) (shape : Shape) (ws : List E) wh
           (let valued' : Valued C w (value C (cells L row) place) = subst (λ z. Valued C w (value C (cells L row) z)) there valued in
           omega (arith, served h, Val.valued_once C (chain L shape ws) (level_of L (value C (cells L row) place)) w (value C (cells L row) place) (valued_level L shape ws (value C (cells L row) place)) valued'))
 
-    pub whole_next : (d : ℕ) (rows : ℕ → List E) (l : ℕ → Level) (p : ℕ → ℕ) (store new : List E) → d ≡ R.depth → Whole L shape ws s store
-        → ((i : ℕ) → i < d → After L shape ws s i (rows i) (l i) (p i)) → ((i : ℕ) → i < d → Less L shape ws (rows i) (l i) (p i) store)
-        → ((i : ℕ) → i < d → Served L shape ws (rows i) (l i) (p i) new) → Grown L shape ws (suc s) store new → Whole L shape ws (suc s) new
-    whole_next d rows l p store new deep whole after less served grown =
+    pub whole_next : (rows : ℕ → List E) (l : ℕ → Level) (p : ℕ → ℕ) (store new : List E) → Whole L shape ws s store
+        → ((i : ℕ) → i < R.depth → After L shape ws s i (rows i) (l i) (p i)) → ((i : ℕ) → i < R.depth → Less L shape ws (rows i) (l i) (p i) store)
+        → ((i : ℕ) → i < R.depth → Served L shape ws (rows i) (l i) (p i) new) → Grown L shape ws (suc s) store new → Whole L shape ws (suc s) new
+    whole_next rows l p store new whole after less served grown =
         Completes.complete_next C (chain L shape ws) s (kept_level L shape store) (level_bound L shape ws store) whole (λ i. current s (l i) (rows i) (l i).found) (kept_level L shape new) (record {
-          monic = λ i h. current_monic i (rows i) (l i) (p i) (after i (omega arith)) (l i).found refl;
-          stuck = λ i h. current_stuck i (rows i) (l i) (p i) (after i (omega arith)) store (less i (omega arith)) (l i).found refl;
+          monic = λ i h. current_monic i (rows i) (l i) (p i) (after i h) (l i).found refl;
+          stuck = λ i h. current_stuck i (rows i) (l i) (p i) (after i h) store (less i h) (l i).found refl;
           smaller = grown.smaller;
-          kept = λ i q w h. current_kept i (rows i) (l i) (p i) (after i (omega arith)) new (served i (omega arith)) q w (l i).found refl;
+          kept = λ i q w h. current_kept i (rows i) (l i) (p i) (after i h) new (served i h) q w (l i).found refl;
         })
 
   pub grown_start : (s : ℕ) (store : List E) → Store L shape ws s store → Grown L shape ws (suc s) store store
@@ -118,6 +107,9 @@ module _ {E : Type 0} {R : Ring E} (L : Laws R) (shape : Shape) (ws : List E) wh
   pub grown_on : (s : ℕ) (store mid new : List E) → Grown L shape ws s store mid → Grown L shape ws s mid new → Grown L shape ws s store new
   grown_on s store mid new x y = record { store = y.store; smaller = λ q. omega (arith, x.smaller q, y.smaller q) }
 
+  pub grown_same : (s : ℕ) (store mid : List E) → Grown L shape ws s store mid → Grown L shape ws s mid mid
+  grown_same s store mid g = record { store = g.store; smaller = λ q. omega arith }
+
   -- what serves the levels before i goes on to do so, and so i + 1 are served
   pub served_next : (s i : ℕ) (rows : ℕ → List E) (l : ℕ → Level) (p : ℕ → ℕ) (store new : List E) → Grown L shape ws s store new
       → ((j : ℕ) → j < i → Served L shape ws (rows j) (l j) (p j) store) → Served L shape ws (rows i) (l i) (p i) new → (j : ℕ) → j < i + 1 → Served L shape ws (rows j) (l j) (p j) new
@@ -126,6 +118,65 @@ module _ {E : Type 0} {R : Ring E} (L : Laws R) (shape : Shape) (ws : List E) wh
       at : Dec (j < i) → Served L shape ws (rows j) (l j) (p j) new
       at (yes b) = λ o. omega (arith, before j b o, grown.smaller (p j))
       at (no b) = let e' : i ≡ j = omega arith in subst (λ z. Served L shape ws (rows z) (l z) (p z) new) e' here
+
+  -- while the levels at degree s are reduced: those before i are, and the others are as before
+  pub record Reducing (s i : ℕ) (fm : List E) (levels : List Level) (places : List ℕ) (store : List E) : Type 0 where
+    pub tables : Tables L shape ws fm levels places
+    pub before : (j : ℕ) → j < R.depth → i ≤ j → Before L shape ws s j (row_of shape fm j) (get_or levels j blank) (get_or places j 0)
+    pub after : (j : ℕ) → j < i → After L shape ws s j (row_of shape fm j) (get_or levels j blank) (get_or places j 0)
+    pub less : (j : ℕ) → j < i → Less L shape ws (row_of shape fm j) (get_or levels j blank) (get_or places j 0) store
+
+  -- while they are kept: those before i are, and the others are as before
+  pub record Keeping (s i : ℕ) (fm fm' : List E) (levels : List Level) (places places' : List ℕ) (store store' : List E) : Type 0 where
+    pub tables : Tables L shape ws fm' levels places'
+    pub grown : Grown L shape ws (suc s) store store'
+    pub row : (j : ℕ) → j < R.depth → i ≤ j → row_of shape fm' j ≡ row_of shape fm j
+    pub place : (j : ℕ) → j < R.depth → i ≤ j → get_or places' j 0 ≡ get_or places j 0
+    pub before : (j : ℕ) → j < i → Before L shape ws (suc s) j (row_of shape fm' j) (get_or levels j blank) (get_or places' j 0)
+    pub served : (j : ℕ) → j < i → Served L shape ws (row_of shape fm j) (get_or levels j blank) (get_or places j 0) store'
+
+  module _ (i : ℕ) (fm fm' : List E) (levels levels' : List Level) (places places' : List ℕ) (turn : Turn shape i fm fm' levels levels' places places') (below : i < R.depth) where
+    tables_turn : Tables L shape ws fm levels places → Tables L shape ws fm' levels' places'
+    tables_turn t = record {
+      size = t.size ∙ sym turn.size;
+      room = turn.room ∙ t.room;
+      place_room = turn.place_room ∙ t.place_room;
+      rest = λ j b. turn.level j (omega arith) ∙ t.rest j b;
+    }
+
+    -- one more level is reduced
+    pub reducing_next : (s : ℕ) (store : List E) → Reducing s i fm levels places store
+        → After L shape ws s i (row_of shape fm' i) (get_or levels' i blank) (get_or places' i 0)
+        → Less L shape ws (row_of shape fm' i) (get_or levels' i blank) (get_or places' i 0) store
+        → Reducing s (i + 1) fm' levels' places' store
+    reducing_next s store r after less = record {
+      tables = tables_turn r.tables;
+      before = turn_rest shape (λ j row l p. Before L shape ws s j row l p) i fm fm' levels levels' places places' turn R.depth r.before;
+      after = turn_done shape (λ j row l p. After L shape ws s j row l p) i fm fm' levels levels' places places' turn r.after after;
+      less = turn_done shape (λ j row l p. Less L shape ws row l p store) i fm fm' levels levels' places places' turn r.less less;
+    }
+
+  -- the level i, which is not kept yet, as it was reduced
+  pub keeping_after : (s i : ℕ) (fm fm' : List E) (levels : List Level) (places places' : List ℕ) (store store' : List E) → i < R.depth
+      → Keeping s i fm fm' levels places places' store store' → AllAfter L shape ws fm levels places s
+      → After L shape ws s i (row_of shape fm' i) (get_or levels i blank) (get_or places' i 0)
+  keeping_after s i fm fm' levels places places' store store' below k after =
+      turned shape (λ r l p. After L shape ws s i r l p) (k.row i below (omega arith)) refl (k.place i below (omega arith)) (after i below)
+
+  -- one more level is kept
+  pub keeping_next : (s i : ℕ) (fm fm' new : List E) (levels : List Level) (places places' other : List ℕ) (store store' now : List E) → i < R.depth
+      → Turn shape i fm' new levels levels places' other → Keeping s i fm fm' levels places places' store store' → Grown L shape ws (suc s) store' now
+      → Before L shape ws (suc s) i (row_of shape new i) (get_or levels i blank) (get_or other i 0)
+      → Served L shape ws (row_of shape fm i) (get_or levels i blank) (get_or places i 0) now
+      → Keeping s (i + 1) fm new levels places other store now
+  keeping_next s i fm fm' new levels places places' other store store' now below turn k grown before served = record {
+    tables = tables_turn i fm' new levels levels places' other turn below k.tables;
+    grown = grown_on (suc s) store store' now k.grown grown;
+    row = λ j h b. turn.row j (omega arith) ∙ k.row j h (omega arith);
+    place = λ j h b. turn.place j (omega arith) ∙ k.place j h (omega arith);
+    before = turn_done shape (λ j r l p. Before L shape ws (suc s) j r l p) i fm' new levels levels places' other turn k.before before;
+    served = served_next (suc s) i (row_of shape fm) (λ j. get_or levels j blank) (λ j. get_or places j 0) store' now grown k.served served;
+  }
 
   -- nothing is kept in cleared memory, and before degree 0 that is enough
   pub store_start : (store : List E) → Clear R store → e * shape.channels * (e + 2) ≡ length store → Store L shape ws 0 store

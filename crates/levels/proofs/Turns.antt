@@ -1,5 +1,5 @@
 -- One level written; the others as they were.
-use Rattle.std.proofs.Common.{◌≡◌, ℕ, ◌+◌, ◌-◌, ◌*◌, ◌<◌, ◌≤◌, ◌≢◌, List, length, get_or, take, drop, set, sym, refl, ap, ◌∙◌, subst, ap₂, arith, get_or-set_other}
+use Rattle.std.proofs.Common.{◌≡◌, ℕ, ◌+◌, ◌-◌, ◌*◌, ◌<◌, ◌≤◌, ◌≢◌, List, length, get_or, take, drop, set, sym, refl, ap, ◌∙◌, subst, ap₂, arith, length-set, get_or-set_other}
 use native.Mathlib.Decide.{dec_lt, ℕ_discrete}
 use borrow.Rule.Slice.PartMut.{put_mid, same_len_mid}
 use Rattle.std.proofs.lemmas.List.Edits.{length-between}
@@ -42,23 +42,41 @@ module _ {E : Type 0} (shape : Shape) where
             ∙ sym (between_is fm b (b + (shape.count.words + 1))) ∙ part_row fm b j refl
         at (no c) = ap (take (shape.count.words + 1)) (drop-put_mid a (a + (shape.count.words + 1) - a) fm new b (omega (arith, apart i j (shape.count.words + 1) (omega arith))) (omega arith) (omega arith))
 
-  -- the levels but i are as they were
+  -- the levels but i are as they were, and the memories as long
   pub record Turn (i : ℕ) (fm fm' : List E) (levels levels' : List Level) (places places' : List ℕ) : Type 0 where
+    pub size : length fm' ≡ length fm
+    pub room : length levels' ≡ length levels
+    pub place_room : length places' ≡ length places
     pub row : (j : ℕ) → j ≢ i → row_of shape fm' j ≡ row_of shape fm j
     pub level : (j : ℕ) → j ≢ i → get_or levels' j blank ≡ get_or levels j blank
     pub place : (j : ℕ) → j ≢ i → get_or places' j 0 ≡ get_or places j 0
 
   pub turn_none : (i : ℕ) (fm : List E) (levels : List Level) (places : List ℕ) → Turn i fm fm levels levels places places
-  turn_none i fm levels places = record { row = λ j _. refl; level = λ j _. refl; place = λ j _. refl }
+  turn_none i fm levels places = record { size = refl; room = refl; place_room = refl; row = λ j _. refl; level = λ j _. refl; place = λ j _. refl }
 
-  -- a row and the two tables written
-  pub turn_put : (i a : ℕ) (fm new : List E) (levels levels' : List Level) (places : List ℕ) (p : ℕ)
+  -- a row and its level written
+  pub turn_level : (i a : ℕ) (fm new : List E) (levels : List Level) (level : Level) (places : List ℕ)
       → a ≡ i * (shape.count.words + 1) → a + (shape.count.words + 1) ≤ length fm → length new ≡ shape.count.words + 1
-      → ((j : ℕ) → j ≢ i → get_or levels' j blank ≡ get_or levels j blank)
-      → Turn i fm (put_mid a (a + (shape.count.words + 1) - a) fm new) levels levels' places (set places i p)
-  turn_put i a fm new levels levels' places p ea room len same = record {
+      → Turn i fm (put_mid a (a + (shape.count.words + 1) - a) fm new) levels (set levels i level) places places
+  turn_level i a fm new levels level places ea room len = record {
+    size = put_size i a fm new ea room len;
+    room = length-set levels i level;
+    place_room = refl;
     row = put_others i a fm new ea room len;
-    level = same;
+    level = λ j ne. get_or-set_other levels i j level blank ne;
+    place = λ j ne. refl;
+  }
+
+  -- a row and its place written
+  pub turn_place : (i a : ℕ) (fm new : List E) (levels : List Level) (places : List ℕ) (p : ℕ)
+      → a ≡ i * (shape.count.words + 1) → a + (shape.count.words + 1) ≤ length fm → length new ≡ shape.count.words + 1
+      → Turn i fm (put_mid a (a + (shape.count.words + 1) - a) fm new) levels levels places (set places i p)
+  turn_place i a fm new levels places p ea room len = record {
+    size = put_size i a fm new ea room len;
+    room = refl;
+    place_room = length-set places i p;
+    row = put_others i a fm new ea room len;
+    level = λ j ne. refl;
     place = λ j ne. get_or-set_other places i j p 0 ne;
   }
 

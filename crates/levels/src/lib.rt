@@ -8,7 +8,8 @@ ghost use Rattle.levels.specs.Levels.{row_of};
 ghost use Rattle.levels.specs.Rounds.{ToReduce, Reduced, ToKeepAll, Ready};
 
 use elimination::{eliminate, keep};
-use places::{place_count, row_start};
+use memory::Words;
+use places::{Polynomial, row_start};
 use recurrence::{Level, Record, Shape};
 use ring::Kind;
 use rows::{begin_row, raise_row};
@@ -27,69 +28,63 @@ pub fn begin_levels<K: Kind>(kind: &K, shape: Shape, finding: &mut [K::Elem], de
 
 // Every level at this degree: its polynomial is reduced by what is kept, until it cancels the words, and then the level is found, or is stuck.
 pub fn reduce_levels<K: Kind>(
-    kind: &K,
-    shape: Shape,
-    words: &[K::Elem],
+    words: &Words<K>,
     store: &[K::Elem],
     finding: &mut [K::Elem],
     table: &mut Record,
     places: &mut [usize; 31],
     degree: usize,
-    depth: usize,
 )
-    requires { ToReduce (K.laws kind.now) shape words.now depth degree finding.old table.old.levels places.old store.now }
-    ensures { Reduced (K.laws kind.now) shape words.now depth finding.new table.new.levels places.new degree store.now }
+    requires { ToReduce (K.laws words.now.kind) words.now.shape words.now.cells.now degree finding.old table.old.levels places.old store.now }
+    ensures { Reduced (K.laws words.now.kind) words.now.shape words.now.cells.now finding.new table.new.levels places.new degree store.now }
 {
-    let end = place_count(shape, degree);
+    let depth = words.kind.depth();
     for i in 0..depth {
         if table.levels[i].found {
             continue;
         }
-        let a = row_start(i, shape.count.words + 1, depth, finding.len());
-        let b = a + (shape.count.words + 1);
-        let place = eliminate(
-            kind,
-            shape,
-            words,
-            store,
-            &mut finding[a..b],
-            degree,
-            places[i],
-        );
+        let a = row_start(i, words.shape.count.words + 1, depth, finding.len());
+        let b = a + (words.shape.count.words + 1);
+        let Some(place) = eliminate(words, store, &mut finding[a..b], degree, places[i]) else {
+            table.put(
+                i,
+                Level {
+                    length: degree,
+                    found: true,
+                },
+            );
+            continue;
+        };
         places[i] = place;
-        table.put(
-            i,
-            Level {
-                length: degree,
-                found: place == end,
-            },
-        );
     }
 }
 
 // Every level after this degree: its polynomial is kept where it is stuck, and multiplied by y.
 pub fn keep_levels<K: Kind>(
-    kind: &K,
-    shape: Shape,
-    words: &[K::Elem],
+    words: &Words<K>,
     store: &mut [K::Elem],
     finding: &mut [K::Elem],
     table: &Record,
     places: &mut [usize; 31],
     degree: usize,
-    depth: usize,
 )
-    requires { ToKeepAll (K.laws kind.now) shape words.now depth degree finding.old table.now.levels places.old store.old }
-    ensures { Ready (K.laws kind.now) shape words.now depth finding.new table.now.levels places.new (suc degree) store.new }
+    requires { ToKeepAll (K.laws words.now.kind) words.now.shape words.now.cells.now degree finding.old table.now.levels places.old store.old }
+    ensures { Ready (K.laws words.now.kind) words.now.shape words.now.cells.now finding.new table.now.levels places.new (suc degree) store.new }
 {
+    let depth = words.kind.depth();
     for i in 0..depth {
         if table.levels[i].found {
             continue;
         }
-        let a = row_start(i, shape.count.words + 1, depth, finding.len());
-        let b = a + (shape.count.words + 1);
-        keep(kind, shape, words, store, &finding[a..b], degree, places[i]);
-        raise_row(kind, &mut finding[a..b]);
-        places[i] = places[i].saturating_sub(shape.channels);
+        let a = row_start(i, words.shape.count.words + 1, depth, finding.len());
+        let b = a + (words.shape.count.words + 1);
+        let polynomial = Polynomial {
+            words,
+            row: &finding[a..b],
+            degree,
+        };
+        keep(store, &polynomial, places[i]);
+        raise_row(&words.kind, &mut finding[a..b]);
+        places[i] = places[i].saturating_sub(words.shape.channels);
     }
 }

@@ -21,17 +21,9 @@ impl<'t> Fields<'t> {
     pub fn word(&mut self) -> &'t str
         ensures { Cut self.old.rest.now result.now self.new.rest.now }
     {
-        match self.rest.split_once(' ') {
-            Some((field, rest)) => {
-                self.rest = rest;
-                field
-            }
-            None => {
-                let field = self.rest;
-                self.rest = "";
-                field
-            }
-        }
+        let (field, rest) = self.rest.split_once(' ').unwrap_or((self.rest, ""));
+        self.rest = rest;
+        field
     }
 
     // The next field as a number.

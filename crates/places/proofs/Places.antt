@@ -1,8 +1,6 @@
 -- Places of a capture as numbers.
-use Rattle.std.proofs.Common.{◌≡◌, ℕ, ◌+◌, ◌-◌, ◌*◌, ◌/◌, ◌%◌, ◌<◌, ◌≤◌, ap, mul-le-mul_right, mod-lt, div-lt_iff_lt-mul, add-mul, arith}
-use native.Mathlib.Nat.{mod-add-div'}
+use Rattle.std.proofs.Common.{◌≡◌, ℕ, ◌+◌, ◌-◌, ◌*◌, ◌/◌, ◌<◌, ◌≤◌, ap, mul-le-mul_right, div-lt_iff_lt-mul, add-mul, arith}
 use Rattle.recurrence.specs.declared.shape.Shape.{Shape}
-use Rattle.recurrence.specs.Words.{place}
 use Rattle.places.specs.Places.{places}
 
 -- a row ends where the next begins
@@ -26,25 +24,6 @@ module _ (shape : Shape) where
 
   pub wide : 0 < n
   wide = omega (arith, shape.ok)
-
-  -- the place q lies where it is numbered
-  pub place_of : (q : ℕ) → place shape (q / n) (q % n) ≡ q
-  place_of q = omega (arith, mod-add-div' q n)
-
-  pub held_within : e * n ≤ shape.capacity * n
-  held_within = mul-le-mul_right {m = e} {n = shape.capacity} n shape.ok.0
-
-  pub held_small : e * n ≤ 512
-  held_small = omega (arith, shape.ok, mul-le-mul_right {m = e} {n = 128} n (omega (arith, shape.ok)))
-
-  pub word_below : (q : ℕ) → q < e * n → q / n < e
-  word_below q h = (div-lt_iff_lt-mul {k = n} {x = q} {y = e} wide).1 h
-
-  pub channel_below : (q : ℕ) → q % n < n
-  channel_below q = mod-lt q wide
-
-  pub place_below : (q m : ℕ) → q < places shape m → q < e * n
-  place_below q m h = omega (arith, mul-le-mul_right {m = e - m} {n = e} n (omega arith))
 
   -- a place that counts for the degree m, j ≤ m words on
   pub place_within : (q m j : ℕ) → m ≤ e → j ≤ m → q < places shape m → q + j * n < e * n

@@ -6,7 +6,7 @@ use Rattle.ring.specs.Lawful.{Lawful, Is, lifted, cells, AllLawful}
 use Rattle.recurrence.specs.declared.shape.Shape.{Shape}
 use Rattle.recurrence.proofs.Captures.{Capture, Below, value, Zeros}
 use Rattle.recurrence.proofs.Lift.{capture}
-use Rattle.recurrence.specs.Words.{words, LawfulWords}
+use Rattle.recurrence.specs.Words.{words}
 
 -- how many places count for a polynomial of degree m
 abbrev pub places : Shape → ℕ → ℕ
@@ -17,11 +17,6 @@ module _ {E : Type 0} {R : Ring E} (L : Laws R) (shape : Shape) (ws : List E) wh
   abbrev pub capture_of : Capture (Lawful L)
   capture_of = capture L (words R shape ws) shape.channels shape.count.words
 
-  -- the memory has room for the capture, and every element held is lawful
-  pub record Held : Type 0 where
-    pub room : shape.capacity * shape.channels ≤ length ws
-    pub lawful : LawfulWords R shape.channels shape.count.words (words R shape ws)
-
   -- a polynomial of degree at most m, in memory with room for degrees up to the number of words
   pub record Row (m : ℕ) (row : List E) : Type 0 where
     pub lawful : AllLawful L row
@@ -29,10 +24,10 @@ module _ {E : Type 0} {R : Ring E} (L : Laws R) (shape : Shape) (ws : List E) wh
     pub small : m ≤ shape.count.words
     pub below : Below capture_of (suc m) (cells L row)
 
-  -- q is the first place from the start on where the polynomial is not zero, and a its value there; if there is none, q is the number of places
+  -- q is the first place from the start on where the polynomial is not zero, and a its value there
   pub record Scanned (m : ℕ) (row : List E) (start q : ℕ) (a : E) : Type 0 where
     pub onward : start ≤ q
-    pub within : q ≤ places shape m
+    pub within : q < places shape m
     pub zeros : Zeros capture_of m q (cells L row)
-    pub is : q < places shape m → Is L a (value capture_of (cells L row) q)
-    pub here : q < places shape m → value capture_of (cells L row) q ≢ (lifted L).𝟘
+    pub is : Is L a (value capture_of (cells L row) q)
+    pub here : value capture_of (cells L row) q ≢ (lifted L).𝟘

@@ -2,23 +2,16 @@
 // The functions here ask what the crates above meet: no user of the library calls them.
 #![tactic(auto)]
 
-ghost use Rattle.std.specs.Prelude.{◌≡◌, ℕ, ◌+◌, ◌*◌, ◌/◌, ◌%◌, ◌<◌, ◌≤◌, length, slice_index_or};
+ghost use Rattle.std.specs.Prelude.{◌≡◌, ◌+◌, ◌*◌, ◌<◌, ◌≤◌, MatchOption};
 ghost use Rattle.ring.specs.Lawful.{Is, cells};
 ghost use Rattle.recurrence.proofs.Captures.{value, Zeros};
-ghost use Rattle.recurrence.specs.Words.{place};
-ghost use Rattle.places.specs.Places.{places, capture_of, Held, Row, Scanned};
+ghost use Rattle.places.specs.Places.{places, capture_of, Scanned};
 
+mod polynomial;
+
+pub use polynomial::Polynomial;
 use recurrence::Shape;
-use ring::Kind;
-
-// The element at the place q of the words held. Only here is it said where it lies.
-pub fn read<E: Copy>(shape: Shape, words: &[E], q: usize) -> E
-    requires room { shape.capacity * shape.channels ≤ length words.now }
-    requires within { q < shape.count.words * shape.channels }
-    ensures { (z : E) → result ≡ slice_index_or words.now (place shape (q / shape.channels) (q % shape.channels)) z }
-{
-    words[q]
-}
+use ring::{Kind, is_zero};
 
 // How many places count for a polynomial of this degree.
 pub fn place_count(shape: Shape, degree: usize) -> usize
@@ -28,55 +21,38 @@ pub fn place_count(shape: Shape, degree: usize) -> usize
     (shape.count.words - degree) * shape.channels
 }
 
-// The value at the place q of a polynomial of at most this degree.
-pub fn value_at<K: Kind>(
-    kind: &K,
-    shape: Shape,
-    words: &[K::Elem],
-    row: &[K::Elem],
-    degree: usize,
-    q: usize,
-) -> K::Elem
-    requires held { Held (K.laws kind.now) shape words.now }
-    requires row { Row (K.laws kind.now) shape words.now degree row.now }
-    requires place { q < places shape degree }
-    ensures { Is (K.laws kind.now) result (value (capture_of (K.laws kind.now) shape words.now) (cells (K.laws kind.now) row.now) q) }
-{
-    let mut sum = kind.zero();
-    for j in 0..degree + 1 {
-        sum = kind.add(
-            sum,
-            kind.mul(row[j], read(shape, words, q + j * shape.channels)),
-        );
-    }
-    sum
-}
-
-// The first place from the start on where a polynomial of this degree is not zero, with its value there; the number of places if there is none.
-pub fn first_nonzero<K: Kind>(
-    kind: &K,
-    shape: Shape,
-    words: &[K::Elem],
-    row: &[K::Elem],
-    degree: usize,
-    start: usize,
-) -> (usize, K::Elem)
-    requires held { Held (K.laws kind.now) shape words.now }
-    requires row { Row (K.laws kind.now) shape words.now degree row.now }
-    requires start { start ≤ places shape degree }
-    requires zeros { Zeros (capture_of (K.laws kind.now) shape words.now) degree start (cells (K.laws kind.now) row.now) }
-    ensures { Scanned (K.laws kind.now) shape words.now degree row.now start result.0 result.1 }
-{
-    let depth = kind.depth();
-    let end = place_count(shape, degree);
-    for q in start..end {
-        let value = value_at(kind, shape, words, row, degree, q);
-        let (valuation, _) = kind.split(value);
-        if valuation < depth {
-            return (q, value);
+impl<'p, 'w, K: Kind> Polynomial<'p, 'w, K> {
+    // The value at the place q.
+    pub fn value_at(&self, q: usize) -> K::Elem
+        requires { q < places self.now.words.now.shape self.now.degree }
+        ensures { Is (K.laws self.now.words.now.kind) result (value (capture_of (K.laws self.now.words.now.kind) self.now.words.now.shape self.now.words.now.cells.now) (cells (K.laws self.now.words.now.kind) self.now.row.now) q) }
+    {
+        let words = self.words;
+        let kind = &words.kind;
+        let mut sum = kind.zero();
+        for (j, coefficient) in self.row[..self.degree + 1].iter().enumerate() {
+            let product = kind.mul(*coefficient, words.at(q + j * words.shape.channels));
+            sum = kind.add(sum, product);
         }
+        sum
     }
-    (end, kind.zero())
+
+    // The first place from the start on where it is not zero, with its value there. None if there is none: it cancels the words.
+    pub fn first_nonzero(&self, start: usize) -> Option<(usize, K::Elem)>
+        requires start { start ≤ places self.now.words.now.shape self.now.degree }
+        requires zeros { Zeros (capture_of (K.laws self.now.words.now.kind) self.now.words.now.shape self.now.words.now.cells.now) self.now.degree start (cells (K.laws self.now.words.now.kind) self.now.row.now) }
+        ensures { MatchOption result
+            (Zeros (capture_of (K.laws self.now.words.now.kind) self.now.words.now.shape self.now.words.now.cells.now) self.now.degree (places self.now.words.now.shape self.now.degree) (cells (K.laws self.now.words.now.kind) self.now.row.now))
+            (λ p. Scanned (K.laws self.now.words.now.kind) self.now.words.now.shape self.now.words.now.cells.now self.now.degree self.now.row.now start p.0 p.1) }
+    {
+        for q in start..place_count(self.words.shape, self.degree) {
+            let value = self.value_at(q);
+            if !is_zero(&self.words.kind, value) {
+                return Some((q, value));
+            }
+        }
+        None
+    }
 }
 
 // Where row i of rows of this width begins, in memory for `count` of them.

@@ -2,8 +2,7 @@
 use mathlib.Core.Path.{◌≡◌, refl, sym, ap, ◌∙◌, subst}
 use mathlib.Core.Logic.{◌≢◌, ◌⊎◌, inl, inr}
 use mathlib.Core.Bool.{cond}
-use Prim.Native.Nat.{ℕ, zero, suc, ◌+◌, ◌-◌, ◌*◌, ◌<◌, ◌≤◌}
-use native.Mathlib.Nat.{suc-mul, mul-le-mul_right}
+use Prim.Native.Nat.{ℕ, zero, suc, ◌+◌, ◌-◌, ◌<◌, ◌≤◌}
 use native.Mathlib.Decide.{dec_lt}
 use native.Mathlib.Omega.{arith}
 use borrow.Author.Tests.{lt-ltb, le-ltb}
@@ -20,10 +19,6 @@ use Rattle.recurrence.proofs.Recurrences as Rec
 use Rattle.recurrence.proofs.Valuations as Valuations
 use Rattle.recurrence.proofs.Runs as Runs
 use Rattle.recurrence.proofs.Lift.{capture, valued_of, chain_of}
-
--- an element of an earlier row lies before
-pub place_below : (e n k c : ℕ) → k < e → c < n → k * n + c < e * n
-place_below e n k c hk hc = let h : suc k * n ≤ e * n = mul-le-mul_right n hk in omega (arith, h, suc-mul k n)
 
 module _ {E : Type 0} {R : Ring E} (L : Laws R) where
   abbrev pub lift : (ℕ → E) → ℕ → Element L

@@ -1,16 +1,13 @@
 -- What a finding tells of its capture and its run.
 use mathlib.Core.Path.{◌≡◌, sym, ap, ◌∙◌, subst}
 use mathlib.Core.Logic.{◌⊎◌, inl, inr, ◌↔◌}
-use mathlib.Core.Bool.{Bool, true, false}
 use mathlib.Core.List.{List}
 use Prim.Native.Nat.{ℕ, suc, ◌+◌, ◌*◌, ◌<◌, ◌≤◌}
 use native.Mathlib.Omega.{arith}
-use lib.Dec.{T}
 use Rattle.ring.specs.Ring.{Ring, Laws, Split}
 use Rattle.ring.specs.Lawful.{Lawful as Element, Is, lifted, hold}
 use Rattle.ring.proofs.Lifts as Lifts
 use Rattle.recurrence.specs.declared.shape.Level.{Level}
-use Rattle.recurrence.specs.Memory.{at, Unlawful}
 use Rattle.recurrence.specs.Polynomials.{Lawful, Zero, Within, Degree, Leads, value, Obeys}
 use Rattle.recurrence.specs.Words.{LawfulWords, Length, Shortest, run, CancelsRun}
 use Rattle.recurrence.specs.Findings.{long, extent, row}
@@ -26,14 +23,7 @@ use Rattle.recurrence.proofs.Bridge as Bridge
 use Rattle.recurrence.proofs.Continuations as Continuations
 use Rattle.recurrence.proofs.Rows as Rows
 use Rattle.recurrence.proofs.Rests as Rests
-
--- a list is lawful where none of its elements is unlawful
-pub all_lawful : {E : Type 0} (R : Ring E) (xs : List E) (m : ℕ) → ¬ Unlawful R xs m → (j : ℕ) → j < m → T (R.lawful (at R xs j))
-all_lawful R xs m none j h = by (R.lawful (at R xs j)) (λ z. none (j, h, z))
-  where
-    by : (b : Bool) → ¬ (¬ T b) → T b
-    by true z = tt
-    by false z = absurd (z (λ t. t))
+use Rattle.recurrence.proofs.Elements as Elements
 
 module _ {E : Type 0} {R : Ring E} (L : Laws R) where
   pub obeys_to : (D : ℕ) (q w : ℕ → E) → Lawful R w → Obeys R D q w → Obeysˡ (lifted L) D (Bridge.lift L q) (Bridge.lift L w)
@@ -176,7 +166,7 @@ module _ {E : Type 0} {R : Ring E} (L : Laws R) where
   pub finding_rest_exists : RestExists R
   finding_rest_exists e levels fm formed none =
       Rests.rest_exists L 1 e (λ _ _. R.zero) (omega arith) (long levels) (row R e levels fm)
-      (Rows.row_lawful R e levels fm formed L (all_lawful R fm (extent R e) none)) (λ i _. Rows.row_past R e levels fm i) (Rows.row_top R e levels fm formed)
+      (Rows.row_lawful R e levels fm formed L (Elements.lawful_below R fm (extent R e) none)) (λ i _. Rows.row_past R e levels fm i) (Rows.row_top R e levels fm formed)
 
   pub finding_foretells : RunForetells R
   finding_foretells n e S levels fm stands = run_foretells L n e S stands.wide stands.words (long levels) (row R e levels fm) (rows n e S levels fm stands)

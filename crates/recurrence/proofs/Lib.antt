@@ -1,3 +1,4 @@
+pub mod Elements
 pub mod Polynomials
 pub mod Captures
 pub mod Reductions
@@ -13,4 +14,3 @@ pub mod Rows
 pub mod Rests
 pub mod Findings
 pub mod Stores
-pub mod Writes

@@ -14,6 +14,7 @@ use Rattle.recurrence.specs.Polynomials.{Lawful, Within, Degree}
 use Rattle.recurrence.specs.Words.{Shortest}
 use Rattle.recurrence.specs.Findings.{long, extent, row, Formed, Finding}
 use Rattle.recurrence.proofs.Bridge as Bridge
+use Rattle.ring.proofs.Loops.{place_inside}
 
 module _ {E : Type 0} (R : Ring E) (e : ℕ) (levels : List Level) (fm : List E) where
   pub row_past : (i : ℕ) → Within R (suc (long levels i)) (row R e levels fm i)
@@ -35,7 +36,7 @@ module _ {E : Type 0} (R : Ring E) (e : ℕ) (levels : List Level) (fm : List E)
         by (yes h) = Bridge.zero_lawful L (row_past i j h)
         by (no h) =
             subst (λ z. T (R.lawful z)) (sym (row_at i j (omega arith)))
-            (lawful _ (Bridge.place_below R.depth (e + 1) i j hi (omega (arith, formed.short i hi))))
+            (lawful _ (place_inside R.depth (e + 1) i j hi (omega (arith, formed.short i hi))))
 
     pub row_degree : Laws R → (i : ℕ) → i < R.depth → Degree R (long levels i) (row R e levels fm i)
     row_degree L i hi = Bridge.normal_degree L i (long levels i) (row R e levels fm i) hi (row_past i) (row_top i hi)

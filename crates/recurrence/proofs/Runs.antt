@@ -2,7 +2,8 @@
 use mathlib.Core.Path.{◌≡◌, refl, sym, ap, ◌∙◌}
 use mathlib.Core.Logic.{◌↔◌}
 use Prim.Native.Nat.{ℕ, zero, suc, ◌+◌, ◌-◌, ◌*◌, ◌/◌, ◌%◌, ◌<◌, ◌≤◌}
-use native.Mathlib.Nat.{mul-add-div_right, mul-add-mod_self_right, mod-eq_of_lt, div-eq_of_lt, mod-lt}
+use native.Mathlib.Nat.{mod-lt}
+use Rattle.std.proofs.lemmas.Nat.{div-mul-add, mod-mul-add}
 use native.Mathlib.Decide.{dec_lt, dec_le}
 use native.Mathlib.Omega.{arith}
 use Rattle.ring.specs.Commutative.{power}
@@ -22,12 +23,12 @@ module _ {A : Type 0} (C : Capture A) (chain : Chain C) where
 
   -- a place by its word and its channel
   pub word_of : (k c : ℕ) → c < n → (k * n + c) / n ≡ k
-  word_of k c hc = mul-add-div_right chain.wide k c ∙ ap (λ z. k + z) (div-eq_of_lt hc) ∙ omega arith
+  word_of k c hc = div-mul-add k n c hc
 
   pub value_at : (m : ℕ) (p : ℕ → A) → m < e → Below C (suc m) p → (k c : ℕ) → c < n → value C p (k * n + c) ≡ act R (suc m) p (λ t. S t c) k
   unfolding value
   value_at m p hm below k c hc =
-      let lane : (k * n + c) % n ≡ c = mul-add-mod_self_right k n c ∙ mod-eq_of_lt hc in
+      let lane : (k * n + c) % n ≡ c = mod-mul-add k n c hc in
       rw (word_of k c hc, lane) (Rec.act_stretch R (suc m) (suc e) p (λ t. S t c) k (omega arith) below)
 
   -- to cancel the capture, by words and channels
@@ -38,25 +39,6 @@ module _ {A : Type 0} (C : Capture A) (chain : Chain C) where
   unfolding value
   cancels_from m p below h r counts =
       Rec.act_stretch R (suc m) (suc e) p (λ t. S t (r % n)) (r / n) (omega arith) below ∙ h (r / n) (r % n) (mod-lt r chain.wide) counts
-
-  -- y^k p
-  pub shift_monic : (i m k : ℕ) (p : ℕ → A) → Monic C i m p → Monic C i (k + m) (shift R k p)
-  shift_monic i m k p monic = record {
-    below = λ j h. Rec.shift_at R k p j (omega arith) ∙ monic.below (j - k) (omega arith);
-    top = Rec.shift_after R k p m ∙ monic.top;
-  }
-
-  -- a finished level goes on as y^k times its answer
-  pub shift_keeps : (i m k : ℕ) (p : ℕ → A) → Monic C i m p → Cancels C m p → Monic C i (k + m) (shift R k p) × Cancels C (k + m) (shift R k p)
-  shift_keeps i m k p monic cancels = (shifted, cancels_from (k + m) (shift R k p) shifted.below at)
-    where
-      shifted : Monic C i (k + m) (shift R k p)
-      shifted = shift_monic i m k p monic
-
-      at : (w c : ℕ) → c < n → w + (k + m) < e → act R (suc (k + m)) (shift R k p) (λ t. S t c) w ≡ 𝟘
-      at w c hc hw =
-          let whole : k + suc m ≡ suc (k + m) = omega arith in
-          rw (← whole) (Rec.act_shift R k (suc m) p (λ t. S t c) w ∙ cancels_to m p monic.below cancels (w + k) c hc (omega arith))
 
   -- a unit times step^i leads at level i
   pub one_valued : (i : ℕ) (a : A) → i ≤ d → a ≡ power R step i → Valued C i a
@@ -138,7 +120,7 @@ module _ {A : Type 0} (C : Capture A) (chain : Chain C) where
   module _ (L : ℕ → ℕ) (P : ℕ → ℕ → A) (monic : (i : ℕ) → i < d → Monic C i (L i) (P i)) where
     -- y^k p, of degree k + L i
     pub shift_below : (k i : ℕ) → i < d → Below C (suc (k + L i)) (shift R k (P i))
-    shift_below k i hi = (shift_monic i (L i) k (P i) (monic i hi)).below
+    shift_below k i hi j h = Rec.shift_at R k (P i) j (omega arith) ∙ (monic i hi).below (j - k) (omega arith)
 
     -- a step leaves no more coefficients
     pub step_below : (N i m : ℕ) (f : ℕ → A) (u : A) → i < d → L i ≤ m → m < N → Below C N f → Below C N (plus R f u (shift R (m - L i) (P i)))

@@ -1,13 +1,14 @@
 -- The list of a register, from the values in its line.
-use Rattle.std.proofs.Common.{◌≡◌, ℕ, suc, ◌+◌, ◌-◌, ◌<◌, ◌≤◌, min, T, List, [], ◌∷◌, ◌++◌, length, get_or, take, drop, sym, refl, ap, ◌∙◌, ap₂, add-one, arith, length-append, length-drop, get_or-drop, take_all, get_or-append-add}
+use Rattle.std.proofs.Common.{◌≡◌, ℕ, zero, suc, ◌+◌, ◌-◌, ◌<◌, ◌≤◌, T, List, [], ◌∷◌, ◌++◌, length, get_or, take, drop, sym, refl, ap, ◌∙◌, ap₂, add-one, arith, length-append, length-drop, get_or-drop, take_all, get_or-append-add}
 use native.Mathlib.Decide.{dec_lt}
 use lib.ListN.{get_or-append, get_or-eq_default}
 use lib.Seq.{get_or-append_seam}
 use Rattle.ring.specs.Ring.{Ring, Laws}
 use Rattle.ring.specs.Commutative.{CommRing, sum}
-use Rattle.ring.specs.Lawful.{Lawful as Element, Is, lifted, hold, cells}
+use Rattle.ring.specs.Lawful.{Lawful as Element, Is, lifted, hold, cells, AllLawful}
 use Rattle.ring.proofs.Lifts as Lifts
 use Rattle.ring.proofs.Sums as Sums
+use Rattle.ring.proofs.Loops.{lawful_at}
 use Rattle.ring.proofs.Strong.{strong}
 use Rattle.recurrence.proofs.Polynomials.{run}
 use Rattle.recurrence.proofs.Recurrences as Rec
@@ -63,6 +64,32 @@ module _ {E : Type 0} {R : Ring E} (L : Laws R) where
   unfolding cells
   hold_cell xs j a e = ap (hold L) e
 
+  -- lists of lawful elements
+  pub front_lawful : (xs ys : List E) → AllLawful L (xs ++ ys) → AllLawful L xs
+  front_lawful xs ys h j = go (dec_lt j (length xs))
+    where
+      go : Dec (j < length xs) → T (R.lawful (get_or xs j R.zero))
+      go (yes b) = lawful_at L (sym (get_or-append xs ys R.zero j b)) (h j)
+      go (no b) = lawful_at L (get_or-eq_default xs R.zero (omega arith)) L.ring_laws.zero_lawful
+
+  pub back_lawful : (xs ys : List E) → AllLawful L (xs ++ ys) → AllLawful L ys
+  back_lawful xs ys h j = lawful_at L (sym (get_or-append-add xs ys j R.zero)) (h (length xs + j))
+
+  pub drop_lawful : (n : ℕ) (xs : List E) → AllLawful L xs → AllLawful L (drop n xs)
+  drop_lawful n xs h j = lawful_at L (get_or-drop n xs j R.zero) (h (n + j))
+
+  append_lawful : (xs ys : List E) → AllLawful L xs → AllLawful L ys → AllLawful L (xs ++ ys)
+  append_lawful xs ys hx hy j = go (dec_lt j (length xs))
+    where
+      go : Dec (j < length xs) → T (R.lawful (get_or (xs ++ ys) j R.zero))
+      go (yes b) = lawful_at L (get_or-append xs ys R.zero j b) (hx j)
+      go (no b) =
+          lawful_at L (ap (λ (i : ℕ). get_or (xs ++ ys) i R.zero) {x = j} {y = length xs + (j - length xs)} (omega arith) ∙ get_or-append-add xs ys (j - length xs) R.zero) (hy (j - length xs))
+
+  one_lawful : (x : E) → T (R.lawful x) → AllLawful L (x ∷ [])
+  one_lawful x h zero = h
+  one_lawful x h (suc j) = L.ring_laws.zero_lawful
+
   -- the values that a line holds after x went in, and the one that came out
   module _ (cs xs ys : List E) (x out : E) (pushed : (out ∷ ys) ≡ xs ++ (x ∷ [])) (follows : Is L x ((lifted L).⊖◌ (dot L cs xs))) where
     pub length_same : length ys ≡ length xs
@@ -84,8 +111,14 @@ module _ {E : Type 0} {R : Ring E} (L : Laws R) where
         ap (λ (n : ℕ). (run (lifted L) n (cells L cs) n (cells L ys) t).0) length_same
         ∙ ap (λ (a : Element L). a.0) (run_later (lifted L) (length xs) (cells L cs) (cells L xs) (cells L ys) later_inner later_last t)
 
-    pub continued_first : (hold L out).0 ≡ continued L cs xs 0
-    continued_first = ap (λ (a : Element L). a.0) (at (dec_lt 0 (length xs)))
+    both_lawful : AllLawful L xs → AllLawful L (out ∷ ys)
+    both_lawful h j = lawful_at L (ap (λ l. get_or l j R.zero) pushed) (append_lawful xs (x ∷ []) h (one_lawful x (Lifts.ok L follows)) j)
+
+    pub pushed_lawful : AllLawful L xs → AllLawful L ys
+    pushed_lawful h j = both_lawful h (suc j)
+
+    pub continued_first : AllLawful L xs → out ≡ continued L cs xs 0
+    continued_first h = (Lifts.hold_is L out (both_lawful h 0)).eq ∙ ap (λ (a : Element L). a.0) (at (dec_lt 0 (length xs)))
       where
         came : out ≡ get_or (xs ++ (x ∷ [])) 0 R.zero
         came = ap (λ l. get_or l 0 R.zero) pushed
@@ -113,32 +146,24 @@ module _ {E : Type 0} {R : Ring E} (L : Laws R) where
       ∙ Sums.neg_zero (lifted L))
       ∙ sym (Lifts.zero_is L refl).eq
 
-  -- the coefficients from a place on
-  drop_cells : (cs : List E) (n j : ℕ) → cells L (drop (min n (length cs)) cs) j ≡ cells L cs (n + j)
-  drop_cells cs n j = Lifts.cells_same L (drop (min n (length cs)) cs) cs j (n + j) (get_or-drop (min n (length cs)) cs j R.zero ∙ at (dec_lt n (length cs)))
-    where
-      at : Dec (n < length cs) → get_or cs (min n (length cs) + j) R.zero ≡ get_or cs (n + j) R.zero
-      at (yes h) = ap (λ (i : ℕ). get_or cs i R.zero) (omega arith)
-      at (no h) = get_or-eq_default cs R.zero (omega arith) ∙ sym (get_or-eq_default cs R.zero (omega arith))
-
   -- the sum over a line, in two parts
-  pub dot_parts : (cs xs ys : List E) → dot L cs (xs ++ ys) ≡ (lifted L).◌⊕◌ (dot L cs xs) (dot L (drop (min (length xs) (length cs)) cs) ys)
+  pub dot_parts : (cs xs ys : List E) → dot L cs (xs ++ ys) ≡ (lifted L).◌⊕◌ (dot L cs xs) (dot L (drop (length xs) cs) ys)
   dot_parts cs xs ys =
       ap (λ (n : ℕ). sum (lifted L) n f) (length-append xs ys)
       ∙ Sums.sum_split (lifted L) (length xs) (length ys) f
       ∙ ap₂ (lifted L).◌⊕◌
       (Sums.sum_ext (lifted L) (length xs) _ _ (λ j b. ap (λ a. (lifted L).◌⊗◌ (cells L cs j) a) (Lifts.cells_same L (xs ++ ys) xs j j (get_or-append xs ys R.zero j b))))
       (Sums.sum_ext (lifted L) (length ys) _ _
-      (λ j b. ap₂ (lifted L).◌⊗◌ (sym (drop_cells cs (length xs) j)) (Lifts.cells_same L (xs ++ ys) ys (length xs + j) j (get_or-append-add xs ys j R.zero))))
+      (λ j b. ap₂ (lifted L).◌⊗◌ (sym (Lifts.cells_same L (drop (length xs) cs) cs j (length xs + j) (get_or-drop (length xs) cs j R.zero))) (Lifts.cells_same L (xs ++ ys) ys (length xs + j) j (get_or-append-add xs ys j R.zero))))
     where
       f : ℕ → Element L
       f j = (lifted L).◌⊗◌ (cells L cs j) (cells L (xs ++ ys) j)
 
   -- the element that follows, from the two sums
-  pub follows_is : (cs xs ys : List E) (a b s z r : E) → a ≡ (dot L cs xs).0 → b ≡ (dot L (drop (min (length xs) (length cs)) cs) ys).0
+  pub follows_is : (cs xs ys : List E) (a b s z r : E) → a ≡ (dot L cs xs).0 → b ≡ (dot L (drop (length xs) cs) ys).0
       → (T (R.lawful a) → T (R.lawful b) → s ≡ R.add a b) → z ≡ R.zero → (T (R.lawful z) → T (R.lawful s) → r ≡ R.sub z s)
       → r ≡ ((lifted L).⊖◌ (dot L cs (xs ++ ys))).0
   follows_is cs xs ys a b s z r ea eb add ez sub =
-      let sum_is : Is L s ((lifted L).◌⊕◌ (dot L cs xs) (dot L (drop (min (length xs) (length cs)) cs) ys)) = Lifts.add_is L (record { eq = ea }) (record { eq = eb }) add in
+      let sum_is : Is L s ((lifted L).◌⊕◌ (dot L cs xs) (dot L (drop (length xs) cs) ys)) = Lifts.add_is L (record { eq = ea }) (record { eq = eb }) add in
       (Lifts.sub_is L (Lifts.zero_is L ez) (Lifts.is_at L (sym (dot_parts cs xs ys)) sum_is) sub).eq
       ∙ ap (λ (e : Element L). e.0) (Sums.zero_add (lifted L) ((lifted L).⊖◌ (dot L cs (xs ++ ys))))

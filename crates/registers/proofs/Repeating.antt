@@ -1,18 +1,20 @@
 -- The list of a loop.
-use Rattle.std.proofs.Common.{◌≡◌, ℕ, zero, suc, ◌+◌, ◌%◌, ◌<◌, Bool, true, false, cond, T, eqb, List, length, get_or, take, sym, refl, ap, ◌∙◌, subst, ap₂, add-zero, zero-add, arith, take_all, eq-eqb, ne_eqb}
+use Rattle.std.proofs.Common.{◌≡◌, ℕ, zero, suc, ◌+◌, ◌%◌, ◌<◌, Bool, true, false, cond, T, eqb, inl, inr, List, [], length, get_or, sym, refl, ap, ◌∙◌, ap₂, add-zero, zero-add, arith, eq-eqb, ne_eqb}
 use native.Mathlib.Nat.{mod-add-mod, add-mod_right}
 use Rattle.ring.specs.declared.Refusal.{Refusal}
 use Rattle.ring.specs.Refusals.{Passes, Refuses}
 use Rattle.ring.specs.Ring.{Ring, Laws}
 use Rattle.ring.specs.Commutative.{CommRing, sum}
-use Rattle.ring.specs.Lawful.{Lawful as Element, lifted, hold, cells}
+use Rattle.ring.specs.Lawful.{Lawful as Element, lifted, cells, AllLawful}
 use Rattle.ring.proofs.Lifts as Lifts
 use Rattle.ring.proofs.Sums as Sums
-use Rattle.memory.proofs.Elements.{lawful_all}
+use Rattle.recurrence.proofs.Elements.{lawful_all}
+use Rattle.ring.proofs.Rows.{passes_refuses}
 use Rattle.recurrence.specs.Memory.{at}
 use Rattle.recurrence.specs.Polynomials.{Lawful, Obeys}
 use Rattle.recurrence.proofs.Polynomials.{act}
 use Rattle.recurrence.proofs.Bridge.{lift, lift_is, value_is, from_zero}
+use Rattle.registers.proofs.Making.{Chosen}
 use Rattle.registers.specs.Registers.{loop_rows, cyclic, Repeats, repeated}
 
 module _ {A : Type 0} (R : CommRing A) where
@@ -41,14 +43,14 @@ module _ {A : Type 0} (R : CommRing A) where
       back = ap₂ ◌⊗◌ last (again t) ∙ Sums.one_mul R (w t)
 
 module _ {E : Type 0} {R : Ring E} (L : Laws R) where
+  -- the element at a place, and those after it
+  pub repeated_first : (xs : List E) (place : ℕ) (x : E) → AllLawful L xs → x ≡ get_or xs (place % length xs) R.zero → x ≡ repeated L xs place 0
+  repeated_first xs place x all e =
+      (Lifts.is_same L e (Lifts.cell_is L xs (place % length xs) all)).eq ∙ ap (λ (i : ℕ). (cells L xs (i % length xs)).0) (sym (add-zero place))
+
   pub repeated_later : (xs : List E) (place t : ℕ) → repeated L xs (place % length xs + 1) t ≡ repeated L xs place (t + 1)
   repeated_later xs place t =
       ap (λ (i : ℕ). (cells L xs i).0) (ap (λ (i : ℕ). i % length xs) (omega arith) ∙ mod-add-mod place (length xs) (t + 1))
-
-  pub repeated_first : (xs : List E) (place : ℕ) (x : E) → x ≡ get_or xs (place % length xs) R.zero → (hold L x).0 ≡ repeated L xs place 0
-  unfolding cells
-  repeated_first xs place x e =
-      ap (λ (a : E). (hold L a).0) (e ∙ ap (λ (i : ℕ). get_or xs (i % length xs) R.zero) (sym (add-zero place)))
 
   pub repeated_none : (xs : List E) → length xs ≡ 0 → (place t : ℕ) → repeated L xs place t ≡ R.zero
   repeated_none xs none place t =
@@ -106,14 +108,16 @@ module _ {E : Type 0} {R : Ring E} (L : Laws R) where
             (Lifts.held L (Lifts.one_is L (cyclic_top (suc n) h)))
             period t
 
-  -- a loop of the first n elements: all where nothing is refused, and else none
-  pub made : (xs ys : List E) (n : ℕ) → (Passes (loop_rows R xs) → n ≡ length xs) → ((e : Refusal) → Refuses (loop_rows R xs) e → n ≡ 0)
-      → ys ≡ take n xs → Repeats R xs (repeated L ys 0)
-  made xs ys n good bad is = record {
-    repeats = λ pass t. ap (λ l. repeated L l 0 t) (whole pass) ∙ repeats xs pass t;
-    obeys = λ pass. subst (λ l. Obeys R (length xs) (cyclic R (length xs)) (repeated L l 0)) (sym (whole pass)) (obeys xs pass);
-    refused = λ e no' t. repeated_none ys (let none : n ≡ 0 = bad e no' in ap length (is ∙ ap (λ (k : ℕ). take k xs) none)) 0 t;
+    begun : Repeats R xs (repeated L xs 0)
+    begun = record { repeats = λ _. repeats; obeys = λ _. obeys; refused = λ e n. absurd (passes_refuses (loop_rows R xs) e pass n) }
+
+  none_begun : (xs : List E) (e : Refusal) → Refuses (loop_rows R xs) e → Repeats R xs (repeated L [] 0)
+  none_begun xs e refuses = record {
+    repeats = λ pass. absurd (passes_refuses (loop_rows R xs) e pass refuses);
+    obeys = λ pass. absurd (passes_refuses (loop_rows R xs) e pass refuses);
+    refused = λ _ _. repeated_none [] refl 0;
   }
-    where
-      whole : Passes (loop_rows R xs) → ys ≡ xs
-      whole pass = is ∙ ap (λ (k : ℕ). take k xs) (good pass) ∙ take_all (length xs) xs (omega arith)
+
+  -- a loop of the elements that are chosen
+  pub made : (xs used : List E) → Chosen (loop_rows R xs) xs used → Repeats R xs (repeated L used 0)
+  made xs used choice = elim choice [ inl p ↦ rw p.1 (begun xs p.0) | inr n ↦ rw n.2 (none_begun xs n.0 n.1) ]

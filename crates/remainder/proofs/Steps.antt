@@ -1,7 +1,6 @@
 -- The turns of reduction, from what the calls ensure.
-use Rattle.std.proofs.Common.{◌≡◌, ℕ, ◌+◌, ◌-◌, ◌*◌, ◌<◌, ◌≤◌, Bool, cond, T, ltb, List, length, get_or, take, drop, set, sym, refl, ap, ◌∙◌, subst, ap₂, arith, le-ltb, lt-ltb}
+use Rattle.std.proofs.Common.{◌≡◌, ℕ, ◌+◌, ◌-◌, ◌*◌, ◌<◌, ◌≤◌, Bool, cond, T, ltb, List, length, get_or, take, drop, sym, refl, ap, ◌∙◌, subst, ap₂, arith, le-ltb, lt-ltb}
 use native.Mathlib.Decide.{dec_lt}
-use lib.ListN.{get_or-eq_default}
 use Rattle.ring.specs.Ring.{Ring, Laws, power, Split}
 use Rattle.ring.proofs.Loops.{lawful_at}
 use Rattle.recurrence.specs.declared.shape.Shape.{Shape}
@@ -9,29 +8,27 @@ use Rattle.recurrence.specs.declared.shape.Level.{Level}
 use Rattle.recurrence.specs.Polynomials.{Lawful, Within, Leads, shift}
 use Rattle.recurrence.specs.Memory.{at, Written}
 use Rattle.recurrence.specs.Findings.{long, row}
-use Rattle.recurrence.specs.Reductions.{Step, Rest, done, more, Coefficients}
+use Rattle.recurrence.specs.Reductions.{Step, Rest, done, more}
 use Rattle.recurrence.proofs.Rests.{zero_irreducible, small_irreducible}
 use Rattle.recurrence.proofs.Rows as Rows
-use Rattle.recurrence.proofs.Writes.{written_more}
-use Rattle.memory.proofs.Elements.{read_at}
+use Rattle.recurrence.proofs.Elements.{read_at}
 use Rattle.judging.specs.Judging.{Sound}
 use Rattle.remainder.specs.Steps.{taken}
-use Rattle.judging.proofs.Elements as Elements
+use Rattle.ring.specs.Lawful.{lifted}
+use Rattle.ring.proofs.Sums as Sums
+use Rattle.ring.proofs.Lifts as Lifts
+use Rattle.ring.proofs.Differences as Differences
 use Rattle.judging.proofs.Forms as Forms
 
 module _ {E : Type 0} {R : Ring E} (L : Laws R) where
-  -- one coefficient more is taken away
-  pub taken_more : (old new row : List E) (k i : ℕ) (u x y p r : E) → k + i < length old → length new ≡ length old → i < length row
-      → x ≡ get_or new (k + i) x → y ≡ get_or row i y → T (R.lawful u) → Lawful R (at R old) → Lawful R (at R row)
-      → (T (R.lawful u) → T (R.lawful y) → p ≡ R.mul u y) → (T (R.lawful x) → T (R.lawful p) → r ≡ R.sub x p)
-      → Written old new k i (taken R (at R old) k u (at R row)) → Written old (set new (k + i) r) k (i + 1) (taken R (at R old) k u (at R row))
-  taken_more old new row k i u x y p r hi size hr ex ey hu ho hw ep er w =
-      let x_at : x ≡ at R old (k + i) = read_at R new (k + i) x (omega arith) ex ∙ w.after (k + i) (omega arith) R.zero in
-      let y_at : y ≡ at R row i = read_at R row i y hr ey in
-      let ly = lawful_at L y_at (hw i) in
-      let p_is = ep hu ly in
-      let lp = lawful_at L p_is (L.ring_laws.mul_lawful u y hu ly) in
-      written_more old new k i _ r (omega arith) (er (lawful_at L x_at (ho (k + i))) lp ∙ ap₂ R.sub x_at (p_is ∙ ap (R.mul u) y_at)) w
+  sub_zero : (x : E) → T (R.lawful x) → R.sub x R.zero ≡ x
+  sub_zero x h =
+      let K = L.ring_laws in
+      sym (K.add_zero _ (K.sub_lawful x R.zero h K.zero_lawful)) ∙ K.sub_add x R.zero h K.zero_lawful
+
+  mul_zero : (x : E) → T (R.lawful x) → R.mul x R.zero ≡ R.zero
+  mul_zero x h =
+      (Lifts.mul_is L (Lifts.hold_is L x h) (Lifts.zero_is L refl) (λ _ _. refl)).eq ∙ ap (λ z. z.0) (Sums.mul_zero (lifted L) _) ∙ sym (Lifts.zero_is L refl).eq
 
 module _ {E : Type 0} (R : Ring E) (s : Shape) (levels : List Level) (fm : List E) where
   abbrev P : ℕ → ℕ → E
@@ -44,20 +41,10 @@ module _ {E : Type 0} (R : Ring E) (s : Shape) (levels : List Level) (fm : List 
     pub lawful : Lawful R (at R f)
     pub inside : n ≤ length f
 
-  -- what is left
-  pub record Left (f₀ f : List E) (n : ℕ) : Type 0 where
-    pub rest : Rest R (long levels) P (at R f) (at R f₀)
-    pub left : Coefficients R n (at R f)
-
-  pub begin : (f : List E) → Lawful R (at R f) → Turn f f (length f)
-  begin f ok = record { chain = λ r h. h; within = λ j h. get_or-eq_default f R.zero h; lawful = ok; inside = omega arith }
-
   -- nothing is left
-  pub finish : Laws R → (f₀ f : List E) (n : ℕ) → n ≤ 0 → Turn f₀ f n → Left f₀ f 0
-  finish L f₀ f n h turn = record {
-    rest = turn.chain (at R f) (done (zero_irreducible L 1 0 (λ _ _. R.zero) (omega arith) (long levels) P (at R f) (λ j. turn.within j (omega arith))) (λ j. refl));
-    left = record { past = λ j _. turn.within j (omega arith); last = λ j e. absurd (omega arith) };
-  }
+  pub finish : Laws R → (f₀ f : List E) (n : ℕ) → n ≤ 0 → Turn f₀ f n → Rest R (long levels) P (at R f) (at R f₀)
+  finish L f₀ f n h turn =
+      turn.chain (at R f) (done (zero_irreducible L 1 0 (λ _ _. R.zero) (omega arith) (long levels) P (at R f) (λ j. turn.within j (omega arith))) (λ j. refl))
 
 module _ {E : Type 0} {R : Ring E} (L : Laws R) (s : Shape) (levels : List Level) (fm : List E) (sound : Sound R s levels fm) where
   abbrev row_at : ℕ → ℕ → E
@@ -81,7 +68,7 @@ module _ {E : Type 0} {R : Ring E} (L : Laws R) (s : Shape) (levels : List Level
 
     -- where the row is zero, nothing changes
     idle : (j : ℕ) (z : E) → z ≡ R.zero → at R g j ≡ at R f j → at R g j ≡ R.sub (at R f j) (R.mul u z)
-    idle j z ez e = e ∙ sym (ap (λ y. R.sub (at R f j) (R.mul u y)) ez ∙ ap (R.sub (at R f j)) (Elements.mul_zero L u lawful_unit) ∙ Elements.sub_zero L _ (ok j))
+    idle j z ez e = e ∙ sym (ap (λ y. R.sub (at R f j) (R.mul u y)) ez ∙ ap (R.sub (at R f j)) (mul_zero L u lawful_unit) ∙ sub_zero L _ (ok j))
 
     each : (j : ℕ) → at R g j ≡ R.sub (at R f j) (R.mul u (shift R k (row_at v) j))
     unfolding k
@@ -122,7 +109,7 @@ module _ {E : Type 0} {R : Ring E} (L : Laws R) (s : Shape) (levels : List Level
             ∙ ap (R.sub (at R f m))
             (L.ring_laws.mul_comm u (power R R.step v) lawful_unit (lawful_at L (sym top) (Forms.row_lawful L s levels fm sound v lead.within (long levels v)))
             ∙ sym lead.top.whole)
-            ∙ Elements.sub_self L _ (ok m))
+            ∙ Differences.sub_self L _ (ok m))
 
   -- a turn begins: the coefficient x is read and split
   module _ (f₀ f : List E) (n v : ℕ) (u x : E) (some : 0 < n) (turn : Turn R s levels fm f₀ f n) (read : x ≡ get_or f (n - 1) x) (split : T (R.lawful x) → Split R x v u) where
@@ -132,55 +119,38 @@ module _ {E : Type 0} {R : Ring E} (L : Laws R) (s : Shape) (levels : List Level
     top : Split R (at R f (n - 1)) v u
     top = subst (λ (z : E). Split R z v u) here (split (lawful_at L here (turn.lawful (n - 1))))
 
-    -- a zero is passed over
-    pub skip : R.depth ≤ v → Turn R s levels fm f₀ f (n - 1)
-    skip h = record { chain = turn.chain; within = λ j b. go j b (dec_lt (n - 1) j); lawful = turn.lawful; inside = omega (arith, turn.inside) }
-      where
-        go : (j : ℕ) → n - 1 ≤ j → Dec (n - 1 < j) → at R f j ≡ R.zero
-        go j b (yes c) = turn.within j (omega arith)
-        go j b (no c) = let e : j ≡ n - 1 = omega arith in rw e (top.end_zero (omega (arith, top.low)))
-
     abbrev leads : v < R.depth → Leads R v (n - 1) (at R f)
     leads hv = record { within = hv; above = λ j b. turn.within j (omega arith); unit = u; top = top }
 
-    -- no step is possible
-    pub stop : v < R.depth → n - 1 < long levels v → Left R s levels fm f₀ f n
-    stop hv short = record {
-      rest = turn.chain (at R f)
-          (done (small_irreducible L 1 0 (λ _ _. R.zero) (omega arith) (long levels) row_at (at R f) v (n - 1) turn.lawful (leads hv) short) (λ j. refl));
-      left = record { past = turn.within; last = λ j e z. let ej : j ≡ n - 1 = omega arith in nonzero (subst (λ (i : ℕ). at R f i ≡ R.zero) ej z) };
-    }
-      where
-        nonzero : at R f (n - 1) ≡ R.zero → ⊥
-        nonzero z = omega (arith, top.zero_end z)
+    pub lawful_part : T (R.lawful u)
+    lawful_part = top.unit.1.left
 
-    -- what taking away requires
-    pub ready : (part : List E) → v < R.depth → long levels v ≤ n - 1 → part ≡ take (long levels v + 1) (drop (v * (s.count.words + 1)) fm) → length part ≡ long levels v + 1
-        → (n - 1 - long levels v + length part ≤ length f) × T (R.lawful u) × Lawful R (at R f) × Lawful R (at R part)
-    ready part hv far is size = (
-      omega (arith, turn.inside),
-      top.unit.1.left,
-      turn.lawful,
-      λ j. lawful_at L (ap (λ (l : List E). at R l j) is) (Forms.row_lawful L s levels fm sound v hv j),
-    )
+    -- no step is possible
+    pub stop : v < R.depth → n - 1 < long levels v → Rest R (long levels) row_at (at R f) (at R f₀)
+    stop hv short =
+        turn.chain (at R f)
+        (done (small_irreducible L 1 0 (λ _ _. R.zero) (omega arith) (long levels) row_at (at R f) v (n - 1) turn.lawful (leads hv) short) (λ j. refl))
 
     -- a step
-    pub again : (g part : List E) → v < R.depth → long levels v ≤ n - 1 → part ≡ take (long levels v + 1) (drop (v * (s.count.words + 1)) fm) → length part ≡ long levels v + 1
-        → Written f g (n - 1 - long levels v) (length part) (taken R (at R f) (n - 1 - long levels v) u (at R part)) → Turn R s levels fm f₀ g (n - 1)
-    again g part hv far is size w = record {
-      chain = λ r h. turn.chain r (more (step f g (n - 1) v (leads hv) far inside turn.lawful w') h);
-      within = step_within f g (n - 1) v (leads hv) far inside turn.lawful w';
-      lawful = step_lawful f g (n - 1) v (leads hv) far inside turn.lawful w';
+    pub again : (g part : List E) (D : ℕ) → v < R.depth → D ≡ long levels v → D ≤ n - 1 → part ≡ take (long levels v + 1) (drop (v * (s.count.words + 1)) fm) → length part ≡ long levels v + 1
+        → Written f g (n - 1 - D) (length part) (taken R (at R f) (n - 1 - D) u (at R part)) → Turn R s levels fm f₀ g (n - 1)
+    again g part D hv D_is far is size w = record {
+      chain = λ r h. turn.chain r (more (step f g (n - 1) v (leads hv) near inside turn.lawful w') h);
+      within = step_within f g (n - 1) v (leads hv) near inside turn.lawful w';
+      lawful = step_lawful f g (n - 1) v (leads hv) near inside turn.lawful w';
       inside = omega (arith, turn.inside, w.size);
     }
       where
+        near : long levels v ≤ n - 1
+        near = omega arith
+
         inside : n - 1 < length f
         inside = omega (arith, turn.inside)
 
         w' : Written f g (n - 1 - long levels v) (long levels v + 1) (taken R (at R f) (n - 1 - long levels v) u (row_at v))
-        w' = record {
+        w' = subst (λ (k : ℕ). Written f g (n - 1 - k) (long levels v + 1) (taken R (at R f) (n - 1 - k) u (row_at v))) D_is (record {
           size = w.size;
-          there = λ i b d. w.there i (omega (arith, size)) d ∙ ap (λ (l : List E). R.sub (at R f (n - 1 - long levels v + i)) (R.mul u (at R l i))) is;
+          there = λ i b d. w.there i (omega (arith, size)) d ∙ ap (λ (l : List E). R.sub (at R f (n - 1 - D + i)) (R.mul u (at R l i))) is;
           before = w.before;
           after = λ j b d. w.after j (omega (arith, size)) d;
-        }
+        })

@@ -7,7 +7,7 @@ use Rattle.recurrence.specs.Memory.{at}
 use Rattle.recurrence.specs.Polynomials.{Zero}
 use Rattle.recurrence.specs.Reductions.{Coefficients}
 use Rattle.recurrence.proofs.Findings.{finding_rest_tells}
-use Rattle.memory.proofs.Elements.{lawful_all}
+use Rattle.recurrence.proofs.Elements.{lawful_all}
 use Rattle.remainder.specs.Calls.{trying}
 use Rattle.remainder.specs.Theorems.{TryTells}
 use Rattle.ring.proofs.Rows.{passes_refuses}

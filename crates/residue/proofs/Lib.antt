@@ -1,4 +1,3 @@
-pub mod Sums
 pub mod Binary
 pub mod Units
-pub mod Same
+pub mod Powers

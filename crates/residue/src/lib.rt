@@ -14,21 +14,16 @@ pub use modulus::Residue;
 use ring::{Kind, Refusal};
 
 // No kind has more elements than this.
-const LARGEST: u64 = 1 << 31;
+const LARGEST: u32 = 1 << 31;
 
 // The base to the power of `depth`, unless that is above 2^31.
 fn power(base: Base, depth: usize) -> Option<u32>
     ensures { elim result [ Some m ↦ (m ≡ base.value ^ depth) × (m ≤ 2 ^ 31) | None ↦ 2 ^ 31 < base.value ^ depth ] }
 {
-    let mut size = 1u32;
-    for _ in 0..depth {
-        let next = size as u64 * base.value as u64;
-        if next > LARGEST {
-            return None;
-        }
-        size = next as u32;
-    }
-    Some(size)
+    let depth = u32::try_from(depth).ok()?;
+    base.value
+        .checked_pow(depth)
+        .filter(|size| *size <= LARGEST)
 }
 
 // The number of zero bits that `a` ends in, and what is above them.
@@ -63,14 +58,12 @@ impl Residue {
         if d == 0 {
             return Err(Refusal::Depth);
         }
-        match power(base, d) {
-            Some(size) => Ok(Residue {
-                base,
-                depth: d,
-                size,
-            }),
-            None => Err(Refusal::Depth),
-        }
+        let size = power(base, d).ok_or(Refusal::Depth)?;
+        Ok(Residue {
+            base,
+            depth: d,
+            size,
+        })
     }
 }
 
@@ -111,7 +104,7 @@ impl Kind for Residue {
     }
 
     fn mul(&self, a: u32, b: u32) -> u32 {
-        (a as u64 * b as u64 % self.size as u64) as u32
+        (u64::from(a) * u64::from(b) % u64::from(self.size)) as u32
     }
 
     fn split(&self, a: u32) -> (usize, u32) {
@@ -145,7 +138,7 @@ impl Kind for Residue {
     }
 
     fn same(&self, other: &Residue) -> bool {
-        self.base.same(other.base) && self.depth == other.depth
+        self == other
     }
 }
 
@@ -153,26 +146,25 @@ impl Kind for Residue {
 mod tests {
     use super::*;
 
-    // The number of the refusal, or 0.
-    fn refusal(p: u32, d: usize) -> u8 {
-        match Residue::new(p, d) {
-            Ok(_) => 0,
-            Err(e) => e.number(),
-        }
+    fn refusal(p: u32, d: usize) -> Option<u8> {
+        Residue::new(p, d).err().map(Refusal::number)
     }
 
     #[test]
     fn deepest(rt: HostRuntime) {
-        assert_eq!(rt; (refusal(2, 31), refusal(2, 32)), (0, 2));
-        assert_eq!(rt; (refusal(3, 19), refusal(3, 20)), (0, 2));
-        assert_eq!(rt; (refusal(251, 3), refusal(251, usize::MAX)), (0, 2));
+        assert_eq!(rt; (refusal(2, 31), refusal(2, 32)), (None, Some(2)));
+        assert_eq!(rt; (refusal(3, 19), refusal(3, 20)), (None, Some(2)));
+        assert_eq!(rt;
+            (refusal(251, 3), refusal(251, usize::MAX)),
+            (None, Some(2))
+        );
     }
 
     #[test]
     fn base_before_depth(rt: HostRuntime) {
         assert_eq!(rt;
             (refusal(4, 0), refusal(u32::MAX, usize::MAX), refusal(2, 0)),
-            (1, 1, 2)
+            (Some(1), Some(1), Some(2))
         );
     }
 }

@@ -8,3 +8,4 @@ pub mod Convolution
 pub mod Truncated
 pub mod Loops
 pub mod Remainders
+pub mod Differences

@@ -98,23 +98,11 @@ module _ {A : Type 0} (R : CommRing A) where
   neg_unique : (x y : A) → x ⊕ y ≡ 𝟘 → y ≡ ⊖ x
   neg_unique x y e = neg_of y x (add_comm y x ∙ e)
 
-  pub neg_neg : (x : A) → ⊖ (⊖ x) ≡ x
-  neg_neg x = sym (neg_unique (⊖ x) x (neg_add x))
-
   pub neg_zero : ⊖ 𝟘 ≡ 𝟘
   neg_zero = sym (neg_unique 𝟘 𝟘 (add_zero 𝟘))
 
-  pub neg_add_neg : (x y : A) → ⊖ (x ⊕ y) ≡ (⊖ x) ⊕ (⊖ y)
-  neg_add_neg x y = sym (neg_unique (x ⊕ y) ((⊖ x) ⊕ (⊖ y)) (regroup x y (⊖ x) (⊖ y) ∙ ap₂ ◌⊕◌ (add_neg x) (add_neg y) ∙ add_zero 𝟘))
-
   pub mul_neg : (x y : A) → x ⊗ (⊖ y) ≡ ⊖ (x ⊗ y)
   mul_neg x y = mul_comm x (⊖ y) ∙ neg_mul y x ∙ ap ⊖◌ (mul_comm y x)
-
-  pub cancel_left : (x y : A) → x ⊕ ((⊖ x) ⊕ y) ≡ y
-  cancel_left x y = sym (add_assoc x (⊖ x) y) ∙ ap (λ z. z ⊕ y) (add_neg x) ∙ zero_add y
-
-  pub cancel_right : (x y : A) → (⊖ x) ⊕ (x ⊕ y) ≡ y
-  cancel_right x y = sym (add_assoc (⊖ x) x y) ∙ ap (λ z. z ⊕ y) (neg_add x) ∙ zero_add y
 
   pub from_sum : {a b c : A} → a ≡ c ⊕ b → a ⊕ (⊖ b) ≡ c
   from_sum {b = b} {c = c} e = ap (λ z. z ⊕ (⊖ b)) e ∙ add_assoc c b (⊖ b) ∙ ap (λ z. c ⊕ z) (add_neg b) ∙ add_zero c

@@ -15,10 +15,6 @@ module _ {E A : Type 0} (F : CommRing A) {P : Packing E A} {d : ℕ} (ok : Packs
   open F use {𝟘, 𝟙, ◌⊕◌, ◌⊗◌, ⊖◌, add_assoc, add_comm, add_zero, add_neg, mul_assoc, mul_comm, mul_one, distrib}
   open P use {lawful, coefficient, pack}
 
-  -- two lawful elements with the same coefficients are the same
-  pub same_coefficients : (a b : E) → T (lawful a) → T (lawful b) → ((j : ℕ) → j < d → coefficient a j ≡ coefficient b j) → a ≡ b
-  same_coefficients a b ha hb e = sym (ok.back a ha) ∙ ok.first (coefficient a) (coefficient b) e ∙ ok.back b hb
-
   -- a factor may be cut first
   pub cut_left : (f g : ℕ → A) (j : ℕ) → j < d → product F (coefficient (pack f)) g j ≡ product F f g j
   cut_left f g j h = product_upto F j _ g f g (λ i le. ok.reads f i (omega arith)) (λ i le. refl)

@@ -1,57 +1,57 @@
 // Coefficient kinds: finite chain rings, known by their meaning and their laws; and the refusals of the whole library.
 #![tactic(auto)]
 
-ghost use Rattle.std.specs.Prelude.{◌≡◌, ℕ, ◌≤◌, T, ◌↔◌};
+ghost use Rattle.std.specs.Prelude.{◌≡◌, ℕ, ◌≤◌, T, ◌↔◌, Some};
+ghost use Rattle.std.specs.Fmt.{decimal};
 ghost use Rattle.ring.specs.Ring.{Ring, Laws, Split, UnitOf};
 ghost use Rattle.ring.specs.Refusals.{number, Call, tests};
 
+use std::error::Error;
+use std::fmt;
+
 // Why a call is not carried out.
-#[derive(Clone, Copy)]
+#[derive(Clone, Copy, Debug, PartialEq, Eq, Hash)]
 pub enum Refusal {
-    Base,
-    Depth,
-    Channels,
-    Short,
-    Full,
-    Foreign,
-    Back,
-    Stages,
-    Unsettled,
-    Line,
-    Span,
+    Base = 1,
+    Depth = 2,
+    Channels = 3,
+    Short = 4,
+    Full = 5,
+    Foreign = 6,
+    Back = 7,
+    Stages = 8,
+    Unsettled = 9,
+    Line = 10,
+    Span = 11,
 }
 
 impl Refusal {
     pub fn number(self) -> u8
         ensures { result ≡ number self }
     {
-        match self {
-            Refusal::Base => 1,
-            Refusal::Depth => 2,
-            Refusal::Channels => 3,
-            Refusal::Short => 4,
-            Refusal::Full => 5,
-            Refusal::Foreign => 6,
-            Refusal::Back => 7,
-            Refusal::Stages => 8,
-            Refusal::Unsettled => 9,
-            Refusal::Line => 10,
-            Refusal::Span => 11,
-        }
+        self as u8
     }
 }
+
+// A refusal is printed as its number.
+impl fmt::Display for Refusal {
+    ghost output = { λ e. Some (decimal (number e)) };
+
+    fn fmt<W: fmt::Write>(&self, f: &mut fmt::Formatter<W>) -> fmt::Result {
+        write!(f, "{}", self.number())
+    }
+}
+
+impl Error for Refusal {}
 
 // The refusal of the first row whose test holds, if one does.
 pub fn first(rows: &[(bool, Refusal)]) -> Result<(), Refusal>
     ensures { Call (tests rows.now) result (λ _. Unit {0}) (Unit {0}) }
 {
-    for i in 0..rows.len() {
-        let (fits, refusal) = rows[i];
-        if fits {
-            return Err(refusal);
-        }
+    match rows.iter().find(|row| row.0) {
+        Some(row) => Err(row.1),
+        None => Ok(()),
     }
-    Ok(())
 }
 
 // A kind of coefficients. No function of a kind refuses; of elements that are not lawful it may answer anything.
@@ -116,4 +116,11 @@ pub fn is_zero<K: Kind>(kind: &K, a: K::Elem) -> bool
 {
     let (valuation, _) = kind.split(a);
     valuation == kind.depth()
+}
+
+// Whether two lawful elements are equal.
+pub fn is_equal<K: Kind>(kind: &K, a: K::Elem, b: K::Elem) -> bool
+    ensures { T ((K.Kind.ring kind.now).lawful a) → T ((K.Kind.ring kind.now).lawful b) → T result ↔ (a ≡ b) }
+{
+    is_zero(kind, kind.sub(a, b))
 }

@@ -15,7 +15,7 @@ pub fn step_power<K: Kind>(kind: &K, i: usize) -> K::Elem
     ensures { Is (K.laws kind.now) result (raise (lifted (K.laws kind.now)) (step_of (K.laws kind.now)) i) }
 {
     let mut power = kind.one();
-    for j in 0..i {
+    for _ in 0..i {
         power = kind.mul(power, kind.step());
     }
     power
@@ -48,8 +48,8 @@ pub fn sub_scaled<K: Kind>(
     requires { ToScale (K.laws kind.now) c row.old other.now terms }
     ensures { Holds (K.laws kind.now) row.new (plus (lifted (K.laws kind.now)) (cells (K.laws kind.now) row.old) ((lifted (K.laws kind.now)).⊖◌ (hold (K.laws kind.now) c)) (cells (K.laws kind.now) other.now)) }
 {
-    for j in 0..terms {
-        row[j] = kind.sub(row[j], kind.mul(c, other[j]));
+    for (j, y) in other[..terms].iter().enumerate() {
+        row[j] = kind.sub(row[j], kind.mul(c, *y));
     }
 }
 
@@ -58,8 +58,8 @@ pub fn clear<K: Kind>(kind: &K, cells: &mut [K::Elem])
     ensures { Clear (K.ring kind.now) cells.new }
 {
     let zero = kind.zero();
-    for j in 0..cells.len() {
-        cells[j] = zero;
+    for cell in cells {
+        *cell = zero;
     }
 }
 

@@ -7,7 +7,7 @@ ghost use Rattle.ring.specs.Refusals.{Passes, Refuses};
 ghost use Rattle.recurrence.specs.Memory.{at};
 ghost use Rattle.sources.specs.Makers.{stride_rows};
 ghost use Rattle.registers.specs.Registers.{loop_rows, Registers};
-ghost use Rattle.source_tests.specs.Numbers.{ring};
+ghost use Rattle.source_tests.specs.Numbers.{ring, counted_lawful};
 
 use registers::{Loop, Register};
 use residue::Residue;
@@ -36,6 +36,8 @@ impl Source<Residue> for Counter {
         self.count = word + 1;
         word
     }
+
+    ghost lawful = { λ s t. counted_lawful s.kind (s.count + t) };
 }
 
 // Fills the buffer with every m-th number that the counter counts; with zeros for an m that is refused.
@@ -68,9 +70,9 @@ pub fn stacked<K: Kind>(
     c: K::Elem,
     out: &mut [K::Elem],
 )
-    ensures { (w : ℕ → K.Elem) × Registers (K.Kind.ring kind) coefficients.now stages.old w
-        × (T ((K.Kind.ring kind).lawful c) → Passes (loop_rows (K.Kind.ring kind) elements.now) → (i : ℕ) → i < length out.old → (d : K.Elem)
-        → slice_index_or out.new i d ≡ (K.Kind.ring kind).add ((K.Kind.ring kind).mul c (w i)) (at (K.Kind.ring kind) elements.now ((2 * i) % length elements.now))) }
+    ensures { (w : ℕ → K.Elem) × Registers (K.ring kind) coefficients.now stages.old w
+        × (T ((K.ring kind).lawful c) → Passes (loop_rows (K.ring kind) elements.now) → (i : ℕ) → i < length out.old → (d : K.Elem)
+        → slice_index_or out.new i d ≡ (K.ring kind).add ((K.ring kind).mul c (w i)) (at (K.ring kind) elements.now ((2 * i) % length elements.now))) }
 {
     let len = out.len();
     let register = Register::new(kind, coefficients, stages);
@@ -89,96 +91,69 @@ mod tests {
     use std::test::Fail;
     use truncated::{Polynomial, Truncated};
 
-    // The number of the refusal, or 0.
-    fn refusal(answer: Result<(), Refusal>) -> u8 {
-        match answer {
-            Ok(()) => 0,
-            Err(e) => e.number(),
-        }
-    }
-
     // The numbers modulo 4.
     fn modulo_4() -> Result<Residue, Fail> {
-        match Residue::new(2, 2) {
-            Ok(kind) => Ok(kind),
-            Err(_) => Err(Fail::new("no kind")),
-        }
+        let Ok(kind) = Residue::new(2, 2) else {
+            return Err(Fail::new("no kind"));
+        };
+        Ok(kind)
     }
 
     #[test]
     fn edges_of_adapters(rt: HostRuntime) -> Result<(), Fail> {
-        let kind = modulo_4()?;
+        assert_eq!(rt; check_stride(0).map_err(Refusal::number), Err(11));
+        assert_eq!(rt; check_stride(1).map_err(Refusal::number), Ok(()));
+        assert_eq!(rt; check_stride(65_536).map_err(Refusal::number), Ok(()));
+        assert_eq!(rt; check_stride(65_537).map_err(Refusal::number), Err(11));
+        let counter = Counter {
+            kind: modulo_4()?,
+            count: 0,
+        };
+        assert_eq!(rt; check_scaling(&counter, 3).map_err(Refusal::number), Ok(()));
+        assert_eq!(rt; check_scaling(&counter, 4).map_err(Refusal::number), Err(6));
         assert_eq!(rt;
-            (refusal(check_stride(0)), refusal(check_stride(1))),
-            (11, 0)
+            check_sum(&counter, &counter).map_err(Refusal::number),
+            Ok(())
         );
-        assert_eq!(rt;
-            (refusal(check_stride(65_536)), refusal(check_stride(65_537))),
-            (0, 11)
-        );
-        let counter = Counter { kind, count: 0 };
-        assert_eq!(rt;
-            (
-                refusal(check_scaling(&counter, 3)),
-                refusal(check_scaling(&counter, 4)),
-            ),
-            (0, 6)
-        );
-        assert_eq!(rt; refusal(check_sum(&counter, &counter)), 0);
         Ok(())
     }
 
+    // Whether a register of numbers modulo 4 may be made, or the number of the refusal.
+    fn register_of(coefficients: &[u32], stages: &[u32]) -> Result<Result<(), u8>, Fail> {
+        Ok(check_register(&modulo_4()?, coefficients, stages).map_err(Refusal::number))
+    }
+
     #[test]
-    fn edges_of_registers(rt: HostRuntime) -> Result<(), Fail> {
-        let kind = modulo_4()?;
+    fn edges_of_stages(rt: HostRuntime) -> Result<(), Fail> {
         let mut longest = [0u32; 129];
         longest[128] = 1;
         let mut too_long = [0u32; 130];
         too_long[129] = 1;
         let stages = [0u32; 129];
-        assert_eq!(rt;
-            (
-                refusal(check_register(&kind, &longest, &stages)),
-                refusal(check_register(&kind, &too_long, &stages)),
-            ),
-            (0, 8)
-        );
-        assert_eq!(rt;
-            (
-                refusal(check_register(&kind, &longest, &stages[0..128])),
-                refusal(check_register(&kind, &longest, &stages[0..127])),
-            ),
-            (0, 4)
-        );
-        assert_eq!(rt;
-            (
-                refusal(check_register(&kind, &[], &[])),
-                refusal(check_register(&kind, &[1], &[])),
-            ),
-            (8, 0)
-        );
-        assert_eq!(rt;
-            (
-                refusal(check_register(&kind, &[4, 2], &[])),
-                refusal(check_register(&kind, &[4, 2], &[0])),
-            ),
-            (4, 6)
-        );
-        assert_eq!(rt;
-            (
-                refusal(check_register(&kind, &[3, 2], &[0])),
-                refusal(check_register(&kind, &[3, 1], &[0, 9])),
-            ),
-            (8, 0)
-        );
-        assert_eq!(rt;
-            (
-                refusal(check_loop(&kind, &[])),
-                refusal(check_loop(&kind, &[3])),
-            ),
-            (11, 0)
-        );
-        assert_eq!(rt; refusal(check_loop(&kind, &[3, 4])), 6);
+        assert_eq!(rt; register_of(&longest, &stages)?, Ok(()));
+        assert_eq!(rt; register_of(&too_long, &stages)?, Err(8));
+        assert_eq!(rt; register_of(&longest, &stages[0..128])?, Ok(()));
+        assert_eq!(rt; register_of(&longest, &stages[0..127])?, Err(4));
+        Ok(())
+    }
+
+    #[test]
+    fn edges_of_coefficients(rt: HostRuntime) -> Result<(), Fail> {
+        assert_eq!(rt; register_of(&[], &[])?, Err(8));
+        assert_eq!(rt; register_of(&[1], &[])?, Ok(()));
+        assert_eq!(rt; register_of(&[4, 2], &[])?, Err(4));
+        assert_eq!(rt; register_of(&[4, 2], &[0])?, Err(6));
+        assert_eq!(rt; register_of(&[3, 2], &[0])?, Err(8));
+        assert_eq!(rt; register_of(&[3, 1], &[0, 9])?, Ok(()));
+        Ok(())
+    }
+
+    #[test]
+    fn edges_of_loops(rt: HostRuntime) -> Result<(), Fail> {
+        let kind = modulo_4()?;
+        assert_eq!(rt; check_loop(&kind, &[]).map_err(Refusal::number), Err(11));
+        assert_eq!(rt; check_loop(&kind, &[3]).map_err(Refusal::number), Ok(()));
+        assert_eq!(rt; check_loop(&kind, &[3, 4]).map_err(Refusal::number), Err(6));
         Ok(())
     }
 
@@ -213,11 +188,6 @@ mod tests {
         }
     }
 
-    // The coefficients of a polynomial modulo x^2.
-    fn parts(p: Polynomial) -> (u8, u8) {
-        (p.coefficients[0], p.coefficients[1])
-    }
-
     #[test]
     fn words_of_polynomials(rt: HostRuntime) -> Result<(), Fail> {
         let Ok(kind) = Truncated::new(3, 2) else {
@@ -236,12 +206,15 @@ mod tests {
             &mut out,
         );
         assert_eq!(rt;
-            (parts(out[0]), parts(out[1]), parts(out[2])),
-            ((1, 2), (0, 2), (2, 0))
-        );
-        assert_eq!(rt;
-            (parts(out[3]), parts(out[4]), parts(out[5])),
-            ((0, 0), (0, 2), (0, 1))
+            out,
+            [
+                linear(1, 2),
+                linear(0, 2),
+                linear(2, 0),
+                linear(0, 0),
+                linear(0, 2),
+                linear(0, 1),
+            ]
         );
         Ok(())
     }

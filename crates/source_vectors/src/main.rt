@@ -1,236 +1,112 @@
 // Reads sources from standard input, one a line, makes each, and prints what its checks answer and its first words.
 #![tactic(auto)]
 
-use bits::Bits;
 use generators::Generator;
 use lines::Fields;
-use registers::{Loop, Register, check_loop, check_register};
-use residue::Residue;
 use ring::{Kind, Refusal};
 use sources::Source;
 use sources::adapters::{Scaling, Stride, Sum, check_scaling, check_stride, check_sum};
-use std::alloc::Global;
 use std::io;
-use std::io::{BufRead, BufReader};
-use truncated::Truncated;
-use vectors::Written;
+use vectors::{Element, Failure, Program, Written, run, size};
 
 const WORDS: usize = 64;
 
-// How the two generators are stacked.
+// Where sources are stacked, by this stride and factor, and what the checks answer is printed.
 #[derive(Drop)]
-struct Stacking<'t, E: Copy> {
-    word: &'t str,
+struct Stacking<'r, R, K: Kind> {
+    rt: &'r R,
     stride: usize,
-    factor: E,
-}
-
-fn print_check<R: Print>(rt: &R, answer: Result<(), Refusal>) -> io::Result<()> {
-    match answer {
-        Ok(()) => rt.print("0 "),
-        Err(refusal) => print!(rt; "{} ", refusal.number()),
-    }
-}
-
-fn print_words<K: Written, S: Source<K>, R: Print>(rt: &R, source: &mut S) -> io::Result<()> {
-    K::print(rt, source.next())?;
-    for _ in 1..WORDS {
-        rt.print(" ")?;
-        K::print(rt, source.next())?;
-    }
-    rt.println("")
-}
-
-fn stride<K: Written, S: Source<K>, R: Print>(rt: &R, source: &mut S, m: usize) -> io::Result<()> {
-    print_check(rt, check_stride(m))?;
-    let mut every = Stride::new::<K>(source, m);
-    print_words::<K, _, R>(rt, &mut every)
-}
-
-fn scale<K: Written, S: Source<K>, R: Print>(
-    rt: &R,
-    source: &mut S,
     factor: K::Elem,
-) -> io::Result<()> {
-    print_check(rt, check_scaling(source, factor))?;
-    let mut scaled = Scaling::new::<K>(source, factor);
-    print_words::<K, _, R>(rt, &mut scaled)
 }
 
-fn sum<K: Written, A: Source<K>, B: Source<K>, R: Print>(
-    rt: &R,
-    a: &mut A,
-    b: &mut B,
-) -> io::Result<()> {
-    print_check(rt, check_sum::<K, A, B>(a, b))?;
-    let mut both = Sum::new::<K>(a, b);
-    print_words::<K, _, R>(rt, &mut both)
-}
+impl<R: Print, K: Written> Stacking<'_, R, K> {
+    fn print_check(&self, answer: Result<(), Refusal>) -> io::Result<()> {
+        match answer {
+            Ok(()) => self.rt.print("0 "),
+            Err(refusal) => print!(self.rt; "{refusal} "),
+        }
+    }
 
-// stride (sum (scaling a) b)
-fn stride_sum<K: Written, A: Source<K>, B: Source<K>, R: Print>(
-    rt: &R,
-    a: &mut A,
-    b: &mut B,
-    m: usize,
-    factor: K::Elem,
-) -> io::Result<()> {
-    print_check(rt, check_scaling(a, factor))?;
-    let mut scaled = Scaling::new::<K>(a, factor);
-    print_check(rt, check_sum::<K, _, B>(&scaled, b))?;
-    let mut both = Sum::new::<K>(&mut scaled, b);
-    stride::<K, _, R>(rt, &mut both, m)
-}
+    fn strided<S: Source<K> + Drop>(&self, source: S) -> io::Result<Stride<S>> {
+        self.print_check(check_stride(self.stride))?;
+        Ok(Stride::new::<K>(source, self.stride))
+    }
 
-// scaling (stride (sum a b))
-fn scale_stride<K: Written, A: Source<K>, B: Source<K>, R: Print>(
-    rt: &R,
-    a: &mut A,
-    b: &mut B,
-    m: usize,
-    factor: K::Elem,
-) -> io::Result<()> {
-    print_check(rt, check_sum::<K, A, B>(a, b))?;
-    let mut both = Sum::new::<K>(a, b);
-    print_check(rt, check_stride(m))?;
-    let mut every = Stride::new::<K>(&mut both, m);
-    scale::<K, _, R>(rt, &mut every, factor)
-}
+    fn scaled<S: Source<K> + Drop>(&self, source: S) -> io::Result<Scaling<K, S>> {
+        self.print_check(check_scaling(&source, self.factor))?;
+        Ok(Scaling::new(source, self.factor))
+    }
 
-// sum (stride a) (scaling b)
-fn sum_both<K: Written, A: Source<K>, B: Source<K>, R: Print>(
-    rt: &R,
-    a: &mut A,
-    b: &mut B,
-    m: usize,
-    factor: K::Elem,
-) -> io::Result<()> {
-    print_check(rt, check_stride(m))?;
-    let mut every = Stride::new::<K>(a, m);
-    print_check(rt, check_scaling(b, factor))?;
-    let mut scaled = Scaling::new::<K>(b, factor);
-    sum::<K, _, _, R>(rt, &mut every, &mut scaled)
-}
+    fn summed<A: Source<K> + Drop, B: Source<K> + Drop>(
+        &self,
+        a: A,
+        b: B,
+    ) -> io::Result<Sum<K, A, B>> {
+        self.print_check(check_sum::<K, A, B>(&a, &b))?;
+        Ok(Sum::new(a, b))
+    }
 
-// stride (scaling (stride a))
-fn stride_stride<K: Written, A: Source<K>, R: Print>(
-    rt: &R,
-    a: &mut A,
-    m: usize,
-    factor: K::Elem,
-) -> io::Result<()> {
-    print_check(rt, check_stride(m))?;
-    let mut every = Stride::new::<K>(a, m);
-    print_check(rt, check_scaling(&every, factor))?;
-    let mut scaled = Scaling::new::<K>(&mut every, factor);
-    stride::<K, _, R>(rt, &mut scaled, m)
-}
+    fn print_words<S: Source<K> + Drop>(&self, mut source: S) -> io::Result<()> {
+        self.rt.print(source.next())?;
+        for _ in 1..WORDS {
+            print!(self.rt; " {}", source.next())?;
+        }
+        self.rt.println("")
+    }
 
-// Stacks the two generators as the word says.
-fn stack<K: Written, A: Source<K>, B: Source<K>, R: Print>(
-    rt: &R,
-    a: &mut A,
-    b: &mut B,
-    stacking: &Stacking<'_, K::Elem>,
-) -> io::Result<()> {
-    let m = stacking.stride;
-    let factor = stacking.factor;
-    match stacking.word {
-        "plain" => print_words::<K, A, R>(rt, a),
-        "stride" => stride::<K, A, R>(rt, a, m),
-        "scale" => scale::<K, A, R>(rt, a, factor),
-        "sum" => sum::<K, A, B, R>(rt, a, b),
-        "stride-sum" => stride_sum::<K, A, B, R>(rt, a, b, m, factor),
-        "scale-stride" => scale_stride::<K, A, B, R>(rt, a, b, m, factor),
-        "sum-both" => sum_both::<K, A, B, R>(rt, a, b, m, factor),
-        "stride-stride" => stride_stride::<K, A, R>(rt, a, m, factor),
-        _ => rt.println("unreadable"),
+    // Stacks the two sources as the word says, and prints the first words of the whole.
+    fn print_stacked<A: Source<K> + Drop, B: Source<K> + Drop>(
+        &self,
+        word: &str,
+        a: A,
+        b: B,
+    ) -> Result<(), Failure> {
+        match word {
+            "plain" => self.print_words(a)?,
+            "stride" => self.print_words(self.strided(a)?)?,
+            "scale" => self.print_words(self.scaled(a)?)?,
+            "sum" => self.print_words(self.summed(a, b)?)?,
+            "stride-sum" => {
+                let both = self.summed(self.scaled(a)?, b)?;
+                self.print_words(self.strided(both)?)?
+            }
+            "scale-stride" => {
+                let every = self.strided(self.summed(a, b)?)?;
+                self.print_words(self.scaled(every)?)?
+            }
+            "sum-both" => self.print_words(self.summed(self.strided(a)?, self.scaled(b)?)?)?,
+            "stride-stride" => {
+                let scaled = self.scaled(self.strided(a)?)?;
+                self.print_words(self.strided(scaled)?)?
+            }
+            _ => return Err(Failure::Unreadable),
+        }
+        Ok(())
     }
 }
 
-// Stacks the second generator on the first source.
-fn with_first<K: Written, A: Source<K>, R: Print>(
-    rt: &R,
-    a: &mut A,
-    b: &mut Generator<K>,
-    stacking: &Stacking<'_, K::Elem>,
-) -> io::Result<()> {
-    if b.register {
-        let mut second = Register::new(b.kind, b.list.as_slice(), b.stages.as_mut_slice());
-        stack::<K, A, _, R>(rt, a, &mut second, stacking)
-    } else {
-        let mut second = Loop::new(b.kind, b.list.as_slice());
-        stack::<K, A, _, R>(rt, a, &mut second, stacking)
-    }
-}
+#[derive(Drop)]
+struct Sources;
 
-// What the check before a generator is made answers.
-fn check<K: Kind>(made: &Generator<K>) -> Result<(), Refusal> {
-    if made.register {
-        check_register(&made.kind, made.list.as_slice(), made.stages.as_slice())
-    } else {
-        check_loop(&made.kind, made.list.as_slice())
-    }
-}
-
-fn with_both<K: Written, R: Print>(
-    rt: &R,
-    a: &mut Generator<K>,
-    b: &mut Generator<K>,
-    stacking: &Stacking<'_, K::Elem>,
-) -> io::Result<()> {
-    print_check(rt, check(a))?;
-    print_check(rt, check(b))?;
-    if a.register {
-        let mut first = Register::new(a.kind, a.list.as_slice(), a.stages.as_mut_slice());
-        with_first::<K, _, R>(rt, &mut first, b, stacking)
-    } else {
-        let mut first = Loop::new(a.kind, a.list.as_slice());
-        with_first::<K, _, R>(rt, &mut first, b, stacking)
-    }
-}
-
-// The end of a line: how to stack, the stride and the factor.
-fn read_stacking<'t, K: Written>(fields: &mut Fields<'t>) -> Option<Stacking<'t, K::Elem>> {
-    let word = fields.word();
-    let stride = fields.number()? as usize;
-    let factor = K::read(fields)?;
-    Some(Stacking {
-        word,
-        stride,
-        factor,
-    })
-}
-
-// One line, after the kind's letter.
-fn carry_out<K: Written, R: Print>(
-    rt: &R,
-    heap: Global,
-    fields: &mut Fields<'_>,
-) -> io::Result<()> {
-    let Some(mut a) = Generator::<K>::read(heap, fields)? else {
-        return rt.println("unreadable");
-    };
-    let Some(mut b) = Generator::<K>::read(heap, fields)? else {
-        return rt.println("unreadable");
-    };
-    match read_stacking::<K>(fields) {
-        Some(stacking) => with_both(rt, &mut a, &mut b, &stacking),
-        None => rt.println("unreadable"),
+impl Program for Sources {
+    fn carry_out<K: Written, R: Print + AllocGlobal>(
+        rt: &R,
+        fields: &mut Fields<'_>,
+    ) -> Result<(), Failure> {
+        let mut a = Generator::<K>::read(rt.alloc(), fields)?;
+        let mut b = Generator::<K>::read(rt.alloc(), fields)?;
+        let word = fields.word();
+        let stacking = Stacking::<R, K> {
+            rt,
+            stride: size(fields)?,
+            factor: K::Elem::read(fields)?,
+        };
+        stacking.print_check(a.check())?;
+        stacking.print_check(b.check())?;
+        stacking.print_stacked(word, a.source(), b.source())
     }
 }
 
 fn main(rt: HostRuntime) -> io::Result<()> {
-    let heap = rt.alloc();
-    for line in BufReader::new(heap, rt.stdin())?.lines(heap) {
-        let line = line?;
-        let mut fields = Fields::new(line.as_str());
-        match fields.word() {
-            "Z" => carry_out::<Residue, HostRuntime>(&rt, heap, &mut fields)?,
-            "T" => carry_out::<Truncated, HostRuntime>(&rt, heap, &mut fields)?,
-            "B" => carry_out::<Bits, HostRuntime>(&rt, heap, &mut fields)?,
-            _ => rt.println("unreadable")?,
-        }
-    }
-    Ok(())
+    run::<Sources>(&rt)
 }

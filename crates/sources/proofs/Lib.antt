@@ -1,3 +1,4 @@
 pub mod Held
 pub mod Turns
 pub mod Obeying
+pub mod Parts

@@ -1,2 +1,3 @@
 pub mod Makers
 pub mod Window
+pub mod Lawful

@@ -19,24 +19,25 @@ pub trait Source<K: Kind> {
 
     ghost list: { Self → ℕ → K.Elem };
 
-    // Its kind; nothing changes, and every element to come is lawful in it.
+    // Its kind; nothing changes.
     fn kind(&self) -> K
-        ensures is { result ≡ kind_of self.now }
-        ensures lawful { (t : ℕ) → T ((K.Kind.ring (kind_of self.now)).lawful (list self.now t)) };
+        ensures { result ≡ kind_of self.now };
 
     // The next element; afterwards the list begins at the one after it.
     fn next(&mut self) -> K::Elem
         ensures first { result ≡ list self.old 0 }
-        ensures lawful { T ((K.Kind.ring (kind_of self.old)).lawful result) }
         ensures later { (t : ℕ) → list self.new t ≡ list self.old (t + 1) }
         ensures same { kind_of self.new ≡ kind_of self.old };
+
+    // Every element to come is lawful in its kind.
+    ghost lawful: { (s : Self) (t : ℕ) → T ((K.ring (kind_of s)).lawful (list s t)) };
 }
 
 // A source that is lent.
 impl<K: Kind, S: Source<K>> Source<K> for &mut S {
-    ghost kind_of = { λ s. S.Source.kind_of s.now };
+    ghost kind_of = { λ s. S.kind_of s.now };
 
-    ghost list = { λ s t. S.Source.list s.now t };
+    ghost list = { λ s t. S.list s.now t };
 
     fn kind(&self) -> K {
         (**self).kind()
@@ -45,6 +46,8 @@ impl<K: Kind, S: Source<K>> Source<K> for &mut S {
     fn next(&mut self) -> K::Elem {
         (**self).next()
     }
+
+    ghost lawful = { λ s. S.lawful s.now };
 }
 
 // An element as a lawful one: itself where it is lawful, else zero.
@@ -59,8 +62,8 @@ fn skip<K: Kind, S: Source<K>>(source: &mut S, m: usize)
     ensures later { (t : ℕ) → S.list source.new t ≡ S.list source.old (m + t) }
     ensures same { S.kind_of source.new ≡ S.kind_of source.old }
 {
-    for _k in 0..m {
-        let _passed = source.next();
+    for _ in 0..m {
+        source.next();
     }
 }
 
@@ -77,12 +80,11 @@ pub fn draw<K: Kind, S: Source<K>>(
         × (S.kind_of source.new ≡ S.kind_of source.old))
         ((out.new ≡ out.old) × (source.new ≡ source.old)) }
 {
-    let room = out.len();
-    if m > room || from > room - m {
+    if m > out.len() || from > out.len() - m {
         return Err(Refusal::Short);
     }
-    for i in 0..m {
-        out[from + i] = source.next();
+    for cell in &mut out[from..from + m] {
+        *cell = source.next();
     }
     Ok(())
 }

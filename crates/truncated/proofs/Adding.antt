@@ -1,38 +1,41 @@
--- The sum and the difference of polynomials are a + c × b, for c one and minus one.
-use Rattle.std.proofs.Common.{◌≡◌, ℕ, ◌+◌, ◌-◌, ◌*◌, ◌%◌, ◌≤◌, T, get_or, sym, ap, ◌∙◌, arith}
+-- The sum and the difference of polynomials, place by place.
+use Rattle.std.proofs.Common.{◌≡◌, ℕ, ◌+◌, ◌-◌, ◌%◌, ◌<◌, T, List, length, get_or, sym, ap, ◌∙◌, mod-eq_of_lt, arith}
 use native.Mathlib.Nat.{mod_self, zero-mod}
-use Rattle.ring.specs.Commutative.{CommRing}
-use Rattle.ring.proofs.Sums as Sums
+use native.Mathlib.Decide.{dec_lt}
 use Rattle.inverses.specs.Bases.{listed}
 use Rattle.inverses.proofs.Bases.{listed_low}
 use Rattle.truncated.specs.declared.polynomial.Polynomial.{Polynomial}
-use Rattle.truncated.specs.Remainders.{Remainder, remainder, remainders, remainder_add, remainder_mul, same_remainder}
-use Rattle.truncated.specs.Polynomials.{eight, polynomials}
-use Rattle.truncated.specs.Laws.{eight_packs}
-use Rattle.truncated.specs.Operations.{plus_scaled}
+use Rattle.truncated.specs.Remainders.{remainder, remainders, remainder_add}
+use Rattle.truncated.specs.Polynomials.{fits, polynomials}
+use Rattle.truncated.specs.Laws.{places_of, lawful_below, lawful_zero}
+use Rattle.truncated.proofs.Places.{same_places}
 
 module _ (p : ℕ) (h : T (listed p)) (d : ℕ) where
-  pub plus_scaled_is : (a b : Polynomial) (c j : ℕ) → (get_or a.coefficients j 0 + c * get_or b.coefficients j 0) % p ≡ (plus_scaled p h d a c b j).0
-  plus_scaled_is a b c j =
-      let x : ℕ = get_or a.coefficients j 0 in
-      let y : ℕ = get_or b.coefficients j 0 in
-      ap (λ r. r.0) (remainder_add p h x (c * y) ∙ ap ((remainders p h).◌⊕◌ (remainder p h x)) (remainder_mul p h c y))
-
-module _ (p : ℕ) (h : T (listed p)) (d : ℕ) (high : d ≤ 8) where
-  abbrev F : CommRing (Remainder p)
-  F = remainders p h
-
-  pub add_is : (a b : Polynomial) → (eight p h d).pack (plus_scaled p h d a 1 b) ≡ (polynomials p h d).add a b
-  add_is a b = (eight_packs p h d high).first _ _ (λ j _. ap (F.◌⊕◌ ((eight p h d).coefficient a j)) (Sums.one_mul F ((eight p h d).coefficient b j)))
-
-  pub sub_is : (a b : Polynomial) → (eight p h d).pack (plus_scaled p h d a (p - 1) b) ≡ (polynomials p h d).sub a b
-  sub_is a b = (eight_packs p h d high).first _ _ (λ j _. ap (F.◌⊕◌ ((eight p h d).coefficient a j)) (minus ((eight p h d).coefficient b j)))
+  -- every place of a lawful polynomial is below p
+  pub below_base : (a : Polynomial) → T (fits p d a.coefficients) → (j : ℕ) → j < 8 → get_or a.coefficients j 0 < p
+  below_base a t j lt = at (dec_lt j d)
     where
-      whole : F.◌⊕◌ (remainder p h (p - 1)) F.𝟙 ≡ F.𝟘
-      whole = sym (remainder_add p h (p - 1) 1)
-          ∙ same_remainder p h (ap (λ (n : ℕ). n % p) (let s : p - 1 + 1 ≡ p = omega (arith, listed_low p h) in s) ∙ mod_self p ∙ sym (zero-mod p))
+      at : Dec (j < d) → get_or a.coefficients j 0 < p
+      at (yes less) = lawful_below p h d a t j lt less
+      at (no not) = let z = lawful_zero p h d a t j lt (omega arith) in omega (arith, listed_low p h)
 
-      minus : (r : Remainder p) → F.◌⊗◌ (remainder p h (p - 1)) r ≡ F.⊖◌ r
-      minus r = Sums.neg_of F _ r
-          (ap (F.◌⊕◌ (F.◌⊗◌ (remainder p h (p - 1)) r)) (sym (Sums.one_mul F r)) ∙ sym (Sums.distrib_right F (remainder p h (p - 1)) F.𝟙 r)
-          ∙ ap (λ x. F.◌⊗◌ x r) whole ∙ Sums.zero_mul F r)
+  pub add_is : (a b : Polynomial) → T (fits p d a.coefficients) → T (fits p d b.coefficients) → (xs : List ℕ) → length xs ≡ 8
+      → ((j : ℕ) → j < 8 → get_or xs j 0 ≡ (get_or a.coefficients j 0 + get_or b.coefficients j 0) % p)
+      → ◌≡◌ {A = Polynomial} (record { coefficients = xs }) ((polynomials p h d).add a b)
+  add_is a b ha hb xs long each = same_places _ _ (places_of d _ xs long
+      (λ j lt _. each j lt ∙ ap (λ r. r.0) (remainder_add p h (get_or a.coefficients j 0) (get_or b.coefficients j 0)))
+      (λ j lt le. each j lt ∙ none j (lawful_zero p h d a ha j lt le) (lawful_zero p h d b hb j lt le)))
+    where
+      none : (j : ℕ) → get_or a.coefficients j 0 ≡ 0 → get_or b.coefficients j 0 ≡ 0 → (get_or a.coefficients j 0 + get_or b.coefficients j 0) % p ≡ 0
+      none j x y = ap (λ (n : ℕ). n % p) (let s : get_or a.coefficients j 0 + get_or b.coefficients j 0 ≡ 0 = omega arith in s) ∙ zero-mod p
+
+  pub sub_is : (a b : Polynomial) → T (fits p d a.coefficients) → T (fits p d b.coefficients) → (xs : List ℕ) → length xs ≡ 8
+      → ((j : ℕ) → j < 8 → get_or xs j 0 ≡ (get_or a.coefficients j 0 + (p - get_or b.coefficients j 0)) % p)
+      → ◌≡◌ {A = Polynomial} (record { coefficients = xs }) ((polynomials p h d).sub a b)
+  sub_is a b ha hb xs long each = same_places _ _ (places_of d _ xs long
+      (λ j lt less. each j lt ∙ ap (λ r. r.0) (remainder_add p h (get_or a.coefficients j 0) (p - get_or b.coefficients j 0))
+      ∙ ap (λ (n : ℕ). ((remainders p h).◌⊕◌ (remainder p h (get_or a.coefficients j 0)) (remainder p h (p - n))).0) (sym (mod-eq_of_lt (lawful_below p h d b hb j lt less))))
+      (λ j lt le. each j lt ∙ none j (lawful_zero p h d a ha j lt le) (lawful_zero p h d b hb j lt le)))
+    where
+      none : (j : ℕ) → get_or a.coefficients j 0 ≡ 0 → get_or b.coefficients j 0 ≡ 0 → (get_or a.coefficients j 0 + (p - get_or b.coefficients j 0)) % p ≡ 0
+      none j x y = ap (λ (n : ℕ). n % p) (let s : get_or a.coefficients j 0 + (p - get_or b.coefficients j 0) ≡ p = omega arith in s) ∙ mod_self p

@@ -1,5 +1,6 @@
-pub mod Same
 pub mod Places
 pub mod Adding
 pub mod Inverting
 pub mod Splitting
+pub mod Testing
+pub mod Filling

@@ -1,7 +1,13 @@
 -- Loops that fill eight places from the first on.
-use Rattle.std.proofs.Common.{◌≡◌, ℕ, zero, suc, ◌+◌, ◌-◌, ◌*◌, ◌%◌, ◌<◌, ◌≤◌, Bool, true, false, T, eqb, ltb, List, [], ◌∷◌, length, get_or, set, sym, refl, ap, ◌∙◌, subst, ap₂, mod-eq_of_lt, arith, lt→ltb, length-set, get_or-set_other, get_or-set_same, below_more}
+use Rattle.std.proofs.Common.{cond, nat_lt, ◌≡◌, ℕ, zero, suc, ◌+◌, ◌-◌, ◌*◌, ◌%◌, ◌<◌, ◌≤◌, Bool, true, false, T, eqb, ltb, List, [], ◌∷◌, length, get_or, set, sym, refl, ap, ◌∙◌, subst, ap₂, mod-eq_of_lt, mul-le-mul, arith, lt→ltb, length-set, get_or-set_other, get_or-set_same}
 use native.Mathlib.Nat.{zero-mod}
-use native.Mathlib.Decide.{ℕ_discrete}
+use native.Mathlib.Decide.{dec_lt, ℕ_discrete}
+use lib.ListN.{take}
+use mathlib.Core.List.{reverse}
+use Rattle.std.specs.List.{zip, sum_by}
+use Rattle.std.proofs.lemmas.List.{get_or-reverse, length-reverse, get_or-take, length-take, get_or_past}
+use Rattle.std.proofs.lemmas.List.Sums.{sum_by-cons}
+use Rattle.std.proofs.lemmas.List.FromFn.{fill_by_all}
 use Rattle.ring.specs.Commutative.{sum}
 use Rattle.ring.specs.Truncated.{product, monomial}
 use Rattle.ring.proofs.Sums as Sums
@@ -12,7 +18,7 @@ use Rattle.truncated.specs.declared.polynomial.Polynomial.{Polynomial}
 use Rattle.truncated.specs.Remainders.{remainder, remainders, remainder_add, remainder_mul}
 use Rattle.truncated.specs.Polynomials.{bound, fits, places}
 use Rattle.truncated.specs.Laws.{every_of, places_of, lawful_bound, both}
-use Rattle.truncated.specs.Operations.{Filled, product_of}
+use Rattle.truncated.specs.Operations.{product_of}
 
 abbrev pub zeros : ℕ → List ℕ
 zeros zero = []
@@ -23,24 +29,41 @@ zeros_at zero j = refl
 zeros_at (suc n) zero = refl
 zeros_at (suc n) (suc j) = zeros_at n j
 
-pub filled_none : (f : ℕ → ℕ) → Filled f (zeros 8) 0
-filled_none f = record { long = refl; front = λ j lt. absurd (omega arith); rest = λ j _. zeros_at 8 j }
-
-pub filled_more : (f : ℕ → ℕ) (xs : List ℕ) (i x : ℕ) → i < 8 → x ≡ f i → Filled f xs i → Filled f (set xs i x) (i + 1)
-filled_more f xs i x lt e h =
-    let within : i < length xs = omega (arith, h.long) in
-    record {
-      long = length-set xs i x ∙ h.long;
-      front = below_more (λ j. get_or (set xs i x) j 0 ≡ f j) i (λ j less. get_or-set_other xs i j x 0 (omega arith) ∙ h.front j less) (get_or-set_same xs i x 0 within ∙ e);
-      rest = λ j le. get_or-set_other xs i j x 0 (omega arith) ∙ h.rest j (omega arith);
-    }
-
-pub filled_whole : (f : ℕ → ℕ) (xs : List ℕ) (i d : ℕ) → i ≡ d → Filled f xs i → xs ≡ places d f
-filled_whole f xs i d e h = places_of d f xs h.long (λ j _ less. h.front j (omega arith)) (λ j _ le. h.rest j (omega arith))
+pub filled_places : (d : ℕ) (f : ℕ → ℕ) (xs : List ℕ) → length xs ≡ 8 → ((j : ℕ) → j < 8 → get_or xs j 0 ≡ cond (nat_lt j d) (f j) 0) → xs ≡ places d f
+unfolding places
+filled_places d f xs long each = fill_by_all (λ j. cond (nat_lt j d) (f j) 0) xs 8 0 long each
 
 -- a polynomial is its places
 pub same_places : (xs ys : List ℕ) → xs ≡ ys → ◌≡◌ {A = Polynomial} (record { coefficients = xs }) (record { coefficients = ys })
 same_places xs ys e = ap (λ (zs : List ℕ). record { coefficients = zs }) e
+
+-- the products of numbers at like places, summed
+abbrev pub multiplied : ℕ × ℕ → ℕ
+multiplied z = z.0 * z.1
+
+abbrev pub paired : List ℕ → List ℕ → ℕ
+paired xs ys = sum_by multiplied (zip xs ys)
+
+pub paired_high : (xs ys : List ℕ) → ((j : ℕ) → get_or xs j 0 ≤ 255) → ((j : ℕ) → get_or ys j 0 ≤ 255) → paired xs ys ≤ 65025 * length xs
+paired_high [] ys hx hy = omega arith
+paired_high (x ∷ xs) [] hx hy = omega arith
+paired_high (x ∷ xs) (y ∷ ys) hx hy =
+    let xy : x * y ≤ 255 * 255 = mul-le-mul (hx 0) (hy 0) in
+    omega (arith, xy, paired_high xs ys (λ j. hx (suc j)) (λ j. hy (suc j)), sum_by-cons multiplied (x, y) (zip xs ys))
+
+pub high_part : (n : ℕ) (xs : List ℕ) → ((j : ℕ) → get_or xs j 0 ≤ 255) → (j : ℕ) → get_or (take n xs) j 0 ≤ 255
+high_part n xs high j = at (dec_lt j n)
+  where
+    at : Dec (j < n) → get_or (take n xs) j 0 ≤ 255
+    at (yes lt) = omega (arith, get_or-take n xs j 0 lt, high j)
+    at (no ge) = omega (arith, get_or_past (take n xs) j 0 (omega (arith, length-take n xs)))
+
+pub high_back : (xs : List ℕ) → ((j : ℕ) → get_or xs j 0 ≤ 255) → (j : ℕ) → get_or (reverse xs) j 0 ≤ 255
+high_back xs high j = at (dec_lt j (length xs))
+  where
+    at : Dec (j < length xs) → get_or (reverse xs) j 0 ≤ 255
+    at (yes lt) = omega (arith, get_or-reverse xs j 0 lt, high (length xs - 1 - j))
+    at (no ge) = omega (arith, get_or_past (reverse xs) j 0 (omega (arith, length-reverse xs)))
 
 module _ (p : ℕ) (h : T (listed p)) (d : ℕ) where
   pub no_places : zeros 8 ≡ places d (λ _. (remainder p h 0).0)
@@ -67,15 +90,25 @@ module _ (p : ℕ) (h : T (listed p)) (d : ℕ) where
   abbrev pub term : Polynomial → Polynomial → ℕ → ℕ → (n : ℕ) × T (ltb n p)
   term a b k i = (remainders p h).◌⊗◌ (remainder p h (get_or a.coefficients i 0)) (remainder p h (get_or b.coefficients (k - i) 0))
 
-  pub summed_none : (a b : Polynomial) (k : ℕ) → remainder p h 0 ≡ sum (remainders p h) 0 (term a b k)
+  paired_is : (n : ℕ) (xs ys : List ℕ) → length xs ≡ n → length ys ≡ n
+      → remainder p h (paired xs ys) ≡ sum (remainders p h) n (λ j. (remainders p h).◌⊗◌ (remainder p h (get_or xs j 0)) (remainder p h (get_or ys j 0)))
   unfolding sum
-  summed_none a b k = refl
+  paired_is zero [] ys m n = refl
+  paired_is zero (x ∷ xs) ys m n = absurd (omega arith)
+  paired_is (suc k) [] ys m n = absurd (omega arith)
+  paired_is (suc k) (x ∷ xs) [] m n = absurd (omega arith)
+  paired_is (suc k) (x ∷ xs) (y ∷ ys) m n =
+      ap (remainder p h) (sum_by-cons multiplied (x, y) (zip xs ys)) ∙ remainder_add p h (x * y) (paired xs ys)
+      ∙ ap₂ (remainders p h).◌⊕◌ (remainder_mul p h x y) (paired_is k xs ys (omega arith) (omega arith)) ∙ sym (Sums.sum_front (remainders p h) k _)
 
-  pub summed_more : (a b : Polynomial) (k i n x y : ℕ) → x ≡ get_or a.coefficients i 0 → y ≡ get_or b.coefficients (k - i) 0
-      → remainder p h n ≡ sum (remainders p h) i (term a b k) → remainder p h (n + x * y) ≡ sum (remainders p h) (i + 1) (term a b k)
-  summed_more a b k i n x y ex ey e =
-      remainder_add p h n (x * y) ∙ ap₂ (remainders p h).◌⊕◌ e (remainder_mul p h x y ∙ ap₂ (λ (s t : ℕ). (remainders p h).◌⊗◌ (remainder p h s) (remainder p h t)) ex ey)
-      ∙ sym (ap (λ (m : ℕ). sum (remainders p h) m (term a b k)) (let s : i + 1 ≡ suc i = omega arith in s) ∙ Sums.sum_suc (remainders p h) i (term a b k))
+  -- the first places of a, and those of b from the last on
+  pub convolved : (a b : Polynomial) (k : ℕ) → length (take (k + 1) a.coefficients) ≡ k + 1 → length (take (k + 1) b.coefficients) ≡ k + 1
+      → remainder p h (paired (take (k + 1) a.coefficients) (reverse (take (k + 1) b.coefficients))) ≡ sum (remainders p h) (k + 1) (term a b k)
+  convolved a b k m n =
+      let ys = take (k + 1) b.coefficients in
+      paired_is (k + 1) (take (k + 1) a.coefficients) (reverse ys) m (length-reverse ys ∙ n)
+      ∙ Sums.sum_ext (remainders p h) (k + 1) _ _ (λ j lt. ap₂ (λ (s t : ℕ). (remainders p h).◌⊗◌ (remainder p h s) (remainder p h t)) (get_or-take (k + 1) a.coefficients j 0 lt)
+      (get_or-reverse ys j 0 (omega arith) ∙ ap (λ (i : ℕ). get_or ys i 0) (let e : length ys - 1 - j ≡ k - j = omega arith in e) ∙ get_or-take (k + 1) b.coefficients (k - j) 0 (omega arith)))
 
   -- the test of the places
   pub all_fit : (a : Polynomial) → length a.coefficients ≡ 8 → ((j : ℕ) → j < 8 → get_or a.coefficients j 0 < bound p d j) → true ≡ fits p d a.coefficients

@@ -3,7 +3,7 @@ use Rattle.std.specs.Prelude.{◌≡◌, ℕ, ◌<◌, ◌≤◌, T, ◌≢◌, 
 use Rattle.ring.specs.Truncated.{product, monomial}
 use Rattle.inverses.specs.Bases.{listed}
 use Rattle.truncated.specs.declared.polynomial.Polynomial.{Polynomial}
-use Rattle.truncated.specs.Remainders.{Remainder, remainder, remainders}
+use Rattle.truncated.specs.Remainders.{Remainder, remainders}
 use Rattle.truncated.specs.Polynomials.{eight}
 
 -- v is the number of zeros that xs begins with, d at most
@@ -23,10 +23,6 @@ module _ (p : ℕ) (h : T (listed p)) (d : ℕ) where
   abbrev pub x_to : ℕ → Polynomial
   x_to i = (eight p h d).pack (monomial (remainders p h) i)
 
-  -- the coefficients of a + c × b
-  abbrev pub plus_scaled : Polynomial → ℕ → Polynomial → ℕ → Remainder p
-  plus_scaled a c b j = (remainders p h).◌⊕◌ ((eight p h d).coefficient a j) ((remainders p h).◌⊗◌ (remainder p h c) ((eight p h d).coefficient b j))
-
-  -- and of a × b
+  -- the coefficients of a × b
   abbrev pub product_of : Polynomial → Polynomial → ℕ → Remainder p
   product_of a b = product (remainders p h) ((eight p h d).coefficient a) ((eight p h d).coefficient b)

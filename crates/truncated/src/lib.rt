@@ -1,12 +1,12 @@
 // Kind T: polynomials in x over the numbers modulo a base, cut at x^d, in eight places.
 #![tactic(auto)]
 
-ghost use Rattle.std.specs.Prelude.{◌≡◌, ◌+◌, ◌-◌, ◌<◌, ◌≤◌, T, ◌⊎◌, [], ◌∷◌, slice_index};
+ghost use Rattle.std.specs.Prelude.{◌≡◌, ℕ, ◌+◌, ◌-◌, ◌%◌, ◌<◌, ◌≤◌, T, ◌⊎◌, [], ◌∷◌, length, slice_index};
 ghost use Rattle.ring.specs.Refusals.{Call};
 ghost use Rattle.inverses.specs.Bases.{listed};
 ghost use Rattle.truncated.specs.Polynomials.{eight, polynomials};
 ghost use Rattle.truncated.specs.Laws.{polynomials_laws};
-ghost use Rattle.truncated.specs.Operations.{Leading, Filled, x_to, plus_scaled, product_of};
+ghost use Rattle.truncated.specs.Operations.{Leading, Filled, x_to, product_of};
 
 mod kind;
 mod polynomial;
@@ -15,6 +15,30 @@ use inverses::Base;
 pub use kind::Truncated;
 pub use polynomial::Polynomial;
 use ring::{Kind, Refusal};
+use std::array;
+
+// x + y modulo p, of numbers below p.
+fn sum_below(p: u8, x: u8, y: u8) -> u8
+    ensures { x < p → y < p → result ≡ (x + y) % p }
+{
+    let left = p.wrapping_sub(y);
+    if x < left {
+        x.wrapping_add(y)
+    } else {
+        x.wrapping_sub(left)
+    }
+}
+
+// x - y modulo p, of numbers below p.
+fn difference_below(p: u8, x: u8, y: u8) -> u8
+    ensures { x < p → y < p → result ≡ (x + (p - y)) % p }
+{
+    if y <= x {
+        x - y
+    } else {
+        x.wrapping_add(p.wrapping_sub(y))
+    }
+}
 
 impl Truncated {
     // Polynomials over the numbers modulo `p`, cut at x^`d`; refused if `p` is not listed, or else if `d` is not 1 to 8.
@@ -39,29 +63,17 @@ impl Truncated {
         Polynomial { coefficients }
     }
 
-    // a + c × b.
-    fn plus_scaled(self, a: Polynomial, c: u32, b: Polynomial) -> Polynomial
-        requires { c < self.base.value }
-        ensures { result ≡ (eight self.base.value self.base.ok.0 self.depth).pack (plus_scaled self.base.value self.base.ok.0 self.depth a c b) }
-    {
-        let mut coefficients = [0u8; 8];
-        for j in 0..self.depth {
-            let sum = a.coefficients[j] as u32 + c * b.coefficients[j] as u32;
-            coefficients[j] = (sum % self.base.value) as u8;
-        }
-        Polynomial { coefficients }
-    }
-
     // The coefficient of x^k in a × b.
     fn product_at(self, a: Polynomial, b: Polynomial, k: usize) -> u8
         requires { k < 8 }
         ensures is { result ≡ (product_of self.base.value self.base.ok.0 self.depth a b k).0 }
         ensures below { result < self.base.value }
     {
-        let mut sum = 0u32;
-        for i in 0..k + 1 {
-            sum += a.coefficients[i] as u32 * b.coefficients[k - i] as u32;
-        }
+        let sum: u32 = a.coefficients[..=k]
+            .iter()
+            .zip(b.coefficients[..=k].iter().rev())
+            .map(|(x, y)| u32::from(*x) * u32::from(*y))
+            .sum();
         (sum % self.base.value) as u8
     }
 
@@ -69,12 +81,10 @@ impl Truncated {
     fn valuation(self, a: Polynomial) -> usize
         ensures { Leading self.depth a.coefficients result }
     {
-        for j in 0..self.depth {
-            if a.coefficients[j] != 0 {
-                return j;
-            }
-        }
-        self.depth
+        a.coefficients[..self.depth]
+            .iter()
+            .position(|c| *c != 0)
+            .unwrap_or(self.depth)
     }
 
     // `a` without its first `v` coefficients.
@@ -83,9 +93,7 @@ impl Truncated {
         ensures { Filled (λ j. slice_index a.coefficients (v + j)) result.coefficients (self.depth - v) }
     {
         let mut coefficients = [0u8; 8];
-        for j in 0..self.depth - v {
-            coefficients[j] = a.coefficients[v + j];
-        }
+        coefficients[..self.depth - v].copy_from_slice(&a.coefficients[v..self.depth]);
         Polynomial { coefficients }
     }
 }
@@ -112,19 +120,41 @@ impl Kind for Truncated {
     }
 
     fn add(&self, a: Polynomial, b: Polynomial) -> Polynomial {
-        self.plus_scaled(a, 1, b)
+        let p = self.base.value as u8;
+        Polynomial {
+            coefficients: array::from_fn(
+                |j|
+                    requires { j < 8 }
+                { sum_below(p, a.coefficients[j], b.coefficients[j]) },
+            ),
+        }
     }
 
     fn sub(&self, a: Polynomial, b: Polynomial) -> Polynomial {
-        self.plus_scaled(a, self.base.value - 1, b)
+        let p = self.base.value as u8;
+        Polynomial {
+            coefficients: array::from_fn(
+                |j|
+                    requires { j < 8 }
+                { difference_below(p, a.coefficients[j], b.coefficients[j]) },
+            ),
+        }
     }
 
     fn mul(&self, a: Polynomial, b: Polynomial) -> Polynomial {
-        let mut coefficients = [0u8; 8];
-        for k in 0..self.depth {
-            coefficients[k] = self.product_at(a, b, k);
+        Polynomial {
+            coefficients: array::from_fn(
+                |k|
+                    requires { k < 8 }
+                {
+                    if k < self.depth {
+                        self.product_at(a, b, k)
+                    } else {
+                        0
+                    }
+                },
+            ),
         }
-        Polynomial { coefficients }
     }
 
     fn split(&self, a: Polynomial) -> (usize, Polynomial) {
@@ -136,26 +166,21 @@ impl Kind for Truncated {
     }
 
     fn inverse(&self, u: Polynomial) -> Polynomial {
-        let constant = self.base.inverse(u.coefficients[0] as u32);
+        let constant = self.base.inverse(u32::from(u.coefficients[0]));
         let mut w = Polynomial {
             coefficients: [0; 8],
         };
         w.coefficients[0] = constant as u8;
         for k in 1..self.depth {
-            let minus = self.base.value - self.product_at(u, w, k) as u32;
+            let minus = self.base.value - u32::from(self.product_at(u, w, k));
             w.coefficients[k] = (minus * constant % self.base.value) as u8;
         }
         w
     }
 
     fn is_lawful(&self, a: Polynomial) -> bool {
-        for j in 0..8usize {
-            let bound = if j < self.depth { self.base.value } else { 1 };
-            if a.coefficients[j] as u32 >= bound {
-                return false;
-            }
-        }
-        true
+        let (low, high) = a.coefficients.split_at(self.depth);
+        low.iter().all(|c| u32::from(*c) < self.base.value) && high.iter().all(|c| *c == 0)
     }
 
     fn depth(&self) -> usize {
@@ -163,7 +188,7 @@ impl Kind for Truncated {
     }
 
     fn same(&self, other: &Truncated) -> bool {
-        self.base.same(other.base) && self.depth == other.depth
+        self == other
     }
 }
 
@@ -172,12 +197,8 @@ mod tests {
     use super::*;
     use std::test::Fail;
 
-    // The number of the refusal, or 0.
-    fn refusal(p: u32, d: usize) -> u8 {
-        match Truncated::new(p, d) {
-            Ok(_) => 0,
-            Err(e) => e.number(),
-        }
+    fn refusal(p: u32, d: usize) -> Option<u8> {
+        Truncated::new(p, d).err().map(Refusal::number)
     }
 
     fn of(constant: u8, next: u8) -> Polynomial {
@@ -188,20 +209,19 @@ mod tests {
 
     #[test]
     fn refuses(rt: HostRuntime) {
-        assert_eq!(rt; (refusal(4, 9), refusal(3, 0), refusal(3, 9)), (1, 2, 2));
-        assert_eq!(rt; (refusal(2, 8), refusal(251, 1)), (0, 0));
+        assert_eq!(rt;
+            (refusal(4, 9), refusal(3, 0), refusal(3, 9)),
+            (Some(1), Some(2), Some(2))
+        );
+        assert_eq!(rt; (refusal(2, 8), refusal(251, 1)), (None, None));
     }
 
     #[test]
     fn modulo_three(rt: HostRuntime) -> Result<(), Fail> {
-        let Ok(k) = Truncated::new(3, 2) else {
-            return Err(Fail::new("refused"));
-        };
-        assert!(rt; k.mul(of(1, 1), of(2, 1)).coefficients == of(2, 0).coefficients);
-        assert!(rt; k.inverse(of(2, 1)).coefficients == of(2, 2).coefficients);
-        let (v, u) = k.split(of(0, 2));
-        assert!(rt; v == 1);
-        assert!(rt; u.coefficients == of(2, 0).coefficients);
+        let k = Truncated::new(3, 2).map_err(|_| Fail::new("refused"))?;
+        assert_eq!(rt; k.mul(of(1, 1), of(2, 1)), of(2, 0));
+        assert_eq!(rt; k.inverse(of(2, 1)), of(2, 2));
+        assert_eq!(rt; k.split(of(0, 2)), (1, of(2, 0)));
         assert!(rt; !k.is_lawful(of(3, 0)));
         Ok(())
     }

@@ -1,155 +1,13 @@
 // A capture from its first word to the words that come next.
 use crate::{refused, show};
 use capture::{Found, Open};
-use recurrence::{Level, Record};
+use recurrence::Record;
 use registers::Register;
 use ring::Kind;
 use sources::Source;
+use std::alloc::{AllocError, Global};
 use std::io;
-use vectors::Written;
-
-// The next m words of the board.
-fn draw<K: Written, S: Source<K>, R: Print>(
-    rt: &R,
-    open: &mut Open<K>,
-    words: &mut [K::Elem],
-    source: &mut S,
-    m: usize,
-) -> io::Result<()> {
-    match open.draw(words, source, m) {
-        Ok(()) => println!(rt; "  drawn: {m} words"),
-        Err(refusal) => refused(rt, refusal),
-    }
-}
-
-// One word by hand.
-fn feed<K: Written, R: Print>(
-    rt: &R,
-    open: &mut Open<K>,
-    words: &mut [K::Elem],
-    word: &[K::Elem],
-) -> io::Result<()> {
-    show::<K, R>(rt, "  fed by hand:", word)?;
-    match open.feed(words, word) {
-        Ok(()) => Ok(()),
-        Err(refusal) => refused(rt, refusal),
-    }
-}
-
-fn take_back<K: Written, R: Print>(rt: &R, open: &mut Open<K>, m: usize) -> io::Result<()> {
-    match open.take_back(m) {
-        Ok(()) => println!(rt; "  taken back: {m}"),
-        Err(refusal) => refused(rt, refusal),
-    }
-}
-
-// The length of the first 0, 1, .. words.
-fn profile<K: Written, R: Print>(
-    rt: &R,
-    open: &mut Open<K>,
-    words: &[K::Elem],
-    work: &mut [K::Elem],
-    finding: &mut [K::Elem],
-) -> io::Result<()> {
-    let mut numbers = [0usize; 5];
-    match open.profile(words, &mut numbers, work, finding) {
-        Ok(()) => {
-            rt.print("  shortest register of the first 0, 1, .. words:")?;
-            for length in numbers.iter().copied() {
-                print!(rt; " {length}")?;
-            }
-            rt.println("")
-        }
-        Err(refusal) => refused(rt, refusal),
-    }
-}
-
-// How many coefficients a polynomial leaves, which is tried in the buffer.
-fn try_taps<K: Written, R: Print>(
-    rt: &R,
-    found: &Found<K>,
-    table: &Record,
-    finding: &[K::Elem],
-    taps: &[K::Elem],
-    buffer: &mut [K::Elem],
-) -> io::Result<()> {
-    show::<K, R>(rt, "  tried, lowest first:", taps)?;
-    let count = taps.len().min(buffer.len());
-    for j in 0..count {
-        buffer[j] = taps[j];
-    }
-    match found.try_on(table, finding, &mut buffer[..count]) {
-        Ok(0) => rt.println("    nothing is left: it cancels the run"),
-        Ok(left) => println!(rt; "    {left} coefficients are left: it does not cancel the run"),
-        Err(refusal) => refused(rt, refusal),
-    }
-}
-
-// As many of the next words as the buffer holds.
-fn run_on<K: Written, R: Print>(
-    rt: &R,
-    found: &Found<K>,
-    words: &[K::Elem],
-    table: &Record,
-    finding: &[K::Elem],
-    buffer: &mut [K::Elem],
-) -> io::Result<()> {
-    match found.run_on(words, table, finding, buffer) {
-        Ok(()) => show::<K, R>(rt, "  next words:", buffer),
-        Err(refusal) => refused(rt, refusal),
-    }
-}
-
-// What a finding says.
-fn report<K: Written, R: Print>(
-    rt: &R,
-    kind: K,
-    found: &Found<K>,
-    table: &Record,
-    finding: &[K::Elem],
-) -> io::Result<()> {
-    for i in 0..kind.depth() {
-        println!(rt; "  length at level {i}: {}", table.levels[i].length)?;
-    }
-    match found.settled(table, finding) {
-        Ok(true) => rt.println("  settled"),
-        Ok(false) => rt.println("  not settled: more words are wanted"),
-        Err(refusal) => refused(rt, refusal),
-    }
-}
-
-// Finds, tries the data sheet's taps and another polynomial, tells the next words, and opens the capture again.
-fn look<K: Written, R: Print>(
-    rt: &R,
-    kind: K,
-    open: Open<K>,
-    words: &[K::Elem],
-    work: &mut [K::Elem],
-    finding: &mut [K::Elem],
-    buffer: &mut [K::Elem],
-    taps: &[K::Elem],
-    other: &[K::Elem],
-) -> io::Result<Open<K>> {
-    let mut table = Record {
-        levels: [Level {
-            length: 0,
-            found: false,
-        }; 31],
-    };
-    match open.find(words, &mut table, finding, work) {
-        Ok(found) => {
-            report(rt, kind, &found, &table, finding)?;
-            try_taps(rt, &found, &table, finding, taps, buffer)?;
-            try_taps(rt, &found, &table, finding, other, buffer)?;
-            run_on(rt, &found, words, &table, finding, buffer)?;
-            Ok(found.reopen())
-        }
-        Err((refusal, open)) => {
-            refused(rt, refusal)?;
-            Ok(open)
-        }
-    }
-}
+use vectors::{Failure, Written};
 
 // What the data sheet says of a board: its taps, lowest first; another polynomial to try; a word to feed, and one that is foreign.
 #[derive(Clone, Copy)]
@@ -160,51 +18,167 @@ pub struct Sheet<'s, E> {
     pub foreign: &'s [E],
 }
 
-// One capture: drawn from the board's register, a word fed and taken back, a foreign one refused; found; more words; found again.
-pub fn follow<K: Written, R: Print>(
-    rt: &R,
+// The memory that a bench lends to a capture, and the record of its finding.
+#[derive(Drop)]
+pub struct Bench<K: Kind> {
     kind: K,
-    sheet: Sheet<'_, K::Elem>,
-    stages: &mut [K::Elem],
-    words: &mut [K::Elem],
-    finding: &mut [K::Elem],
-    work: &mut [K::Elem],
-    buffer: &mut [K::Elem],
-) -> io::Result<()> {
-    let mut register = Register::new(kind, sheet.taps, stages);
-    match Open::new(kind, 1, words) {
-        Ok(mut open) => {
-            draw(rt, &mut open, words, &mut register, 4)?;
-            feed(rt, &mut open, words, sheet.word)?;
-            feed(rt, &mut open, words, sheet.foreign)?;
-            take_back(rt, &mut open, 1)?;
-            show::<K, R>(rt, "  the words' memory:", words)?;
-            profile(rt, &mut open, words, work, finding)?;
-            let mut open = look(
-                rt,
-                kind,
-                open,
-                words,
-                work,
-                finding,
-                buffer,
-                sheet.taps,
-                sheet.other,
-            )?;
-            draw(rt, &mut open, words, &mut register, 2)?;
-            let _open = look(
-                rt,
-                kind,
-                open,
-                words,
-                work,
-                finding,
-                buffer,
-                sheet.taps,
-                sheet.other,
-            )?;
-            Ok(())
+    words: Vec<K::Elem>,
+    finding: Vec<K::Elem>,
+    work: Vec<K::Elem>,
+    buffer: Vec<K::Elem>,
+    record: Record,
+}
+
+impl<K: Written> Bench<K> {
+    pub fn new(heap: Global, kind: K) -> Result<Bench<K>, AllocError> {
+        Ok(Bench {
+            kind,
+            words: vec![in heap; kind.zero(); 8]?,
+            finding: vec![in heap; kind.zero(); 32]?,
+            work: vec![in heap; kind.zero(); 256]?,
+            buffer: vec![in heap; kind.zero(); 4]?,
+            record: Record::unfound(),
+        })
+    }
+
+    // The next m words of the board.
+    fn draw<S: Source<K>, R: Print>(
+        &mut self,
+        rt: &R,
+        open: &mut Open<K>,
+        source: &mut S,
+        m: usize,
+    ) -> io::Result<()> {
+        match open.draw(self.words.as_mut_slice(), source, m) {
+            Ok(()) => println!(rt; "  drawn: {m} words"),
+            Err(refusal) => refused(rt, refusal),
         }
+    }
+
+    // One word by hand.
+    fn feed<R: Print>(&mut self, rt: &R, open: &mut Open<K>, word: &[K::Elem]) -> io::Result<()> {
+        show(rt, "  fed by hand:", word)?;
+        match open.feed(self.words.as_mut_slice(), word) {
+            Ok(()) => Ok(()),
+            Err(refusal) => refused(rt, refusal),
+        }
+    }
+
+    // The length of the first 0, 1, .. words.
+    fn profile<R: Print>(&mut self, rt: &R, open: &mut Open<K>) -> io::Result<()> {
+        let mut numbers = [0usize; 5];
+        let answer = open.profile(
+            self.words.as_slice(),
+            &mut numbers,
+            self.work.as_mut_slice(),
+            self.finding.as_mut_slice(),
+        );
+        match answer {
+            Ok(()) => show(
+                rt,
+                "  shortest register of the first 0, 1, .. words:",
+                &numbers,
+            ),
+            Err(refusal) => refused(rt, refusal),
+        }
+    }
+
+    // What a finding says.
+    fn report<R: Print>(&self, rt: &R, found: &Found<K>) -> io::Result<()> {
+        let depth = self.kind.depth();
+        for (i, level) in self.record.levels.iter().take(depth).enumerate() {
+            println!(rt; "  length at level {i}: {}", level.length)?;
+        }
+        match found.settled(&self.record, self.finding.as_slice()) {
+            Ok(true) => rt.println("  settled"),
+            Ok(false) => rt.println("  not settled: more words are wanted"),
+            Err(refusal) => refused(rt, refusal),
+        }
+    }
+
+    // How many coefficients a polynomial leaves, which is tried in the buffer.
+    fn try_taps<R: Print>(&mut self, rt: &R, found: &Found<K>, taps: &[K::Elem]) -> io::Result<()> {
+        show(rt, "  tried, lowest first:", taps)?;
+        let Some(tried) = self.buffer.as_mut_slice().get_mut(..taps.len()) else {
+            return rt.println("    it is too long for the buffer");
+        };
+        tried.copy_from_slice(taps);
+        match found.try_on(&self.record, self.finding.as_slice(), tried) {
+            Ok(0) => rt.println("    nothing is left: it cancels the run"),
+            Ok(left) => println!(rt;
+                "    {left} coefficients are left: it does not cancel the run"
+            ),
+            Err(refusal) => refused(rt, refusal),
+        }
+    }
+
+    // As many of the next words as the buffer holds.
+    fn run_on<R: Print>(&mut self, rt: &R, found: &Found<K>) -> io::Result<()> {
+        let answer = found.run_on(
+            self.words.as_slice(),
+            &self.record,
+            self.finding.as_slice(),
+            self.buffer.as_mut_slice(),
+        );
+        match answer {
+            Ok(()) => show(rt, "  next words:", self.buffer.as_slice()),
+            Err(refusal) => refused(rt, refusal),
+        }
+    }
+
+    // Finds, tries the data sheet's taps and another polynomial, tells the next words, and opens the capture again.
+    fn look<R: Print>(
+        &mut self,
+        rt: &R,
+        open: Open<K>,
+        sheet: &Sheet<'_, K::Elem>,
+    ) -> io::Result<Open<K>> {
+        let answer = open.find(
+            self.words.as_slice(),
+            &mut self.record,
+            self.finding.as_mut_slice(),
+            self.work.as_mut_slice(),
+        );
+        match answer {
+            Ok(found) => {
+                self.report(rt, &found)?;
+                self.try_taps(rt, &found, sheet.taps)?;
+                self.try_taps(rt, &found, sheet.other)?;
+                self.run_on(rt, &found)?;
+                Ok(found.reopen())
+            }
+            Err((refusal, open)) => {
+                refused(rt, refusal)?;
+                Ok(open)
+            }
+        }
+    }
+
+    // One capture: drawn from the board's register, a word fed and taken back, a foreign one refused; found; more words; found again.
+    pub fn follow<R: Print>(
+        &mut self,
+        rt: &R,
+        sheet: &Sheet<'_, K::Elem>,
+        stages: &mut [K::Elem],
+    ) -> Result<(), Failure> {
+        let mut register = Register::new(self.kind, sheet.taps, stages);
+        let mut open = Open::new(self.kind, 1, self.words.as_slice())?;
+        self.draw(rt, &mut open, &mut register, 4)?;
+        self.feed(rt, &mut open, sheet.word)?;
+        self.feed(rt, &mut open, sheet.foreign)?;
+        take_back(rt, &mut open, 1)?;
+        show(rt, "  the words' memory:", self.words.as_slice())?;
+        self.profile(rt, &mut open)?;
+        let mut open = self.look(rt, open, sheet)?;
+        self.draw(rt, &mut open, &mut register, 2)?;
+        let _open = self.look(rt, open, sheet)?;
+        Ok(())
+    }
+}
+
+fn take_back<K: Kind, R: Print>(rt: &R, open: &mut Open<K>, m: usize) -> io::Result<()> {
+    match open.take_back(m) {
+        Ok(()) => println!(rt; "  taken back: {m}"),
         Err(refusal) => refused(rt, refusal),
     }
 }

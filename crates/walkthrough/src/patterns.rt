@@ -1,11 +1,22 @@
 // Pattern generators: a register, and what is built on any source.
-use crate::{refused, show};
+use crate::show;
 use registers::Register;
 use ring::Kind;
 use sources::adapters::{Scaling, Stride, Sum};
 use sources::{Source, draw};
-use std::io;
-use vectors::Written;
+use vectors::{Failure, Written};
+
+// A register's taps, its stages, those of a second register, the factor of that one, and a buffer for words.
+// The stages are lent again and again, so that each source goes on where the one before it stopped.
+#[derive(Drop)]
+pub struct Patterns<K: Kind> {
+    pub kind: K,
+    pub taps: Vec<K::Elem>,
+    pub stages: Vec<K::Elem>,
+    pub others: Vec<K::Elem>,
+    pub by: K::Elem,
+    pub buffer: Vec<K::Elem>,
+}
 
 // As many words of a source as the buffer holds.
 fn words_of<K: Written, S: Source<K>, R: Print>(
@@ -13,71 +24,51 @@ fn words_of<K: Written, S: Source<K>, R: Print>(
     label: &str,
     source: &mut S,
     buffer: &mut [K::Elem],
-) -> io::Result<()> {
+) -> Result<(), Failure> {
     let count = buffer.len();
-    match draw(source, buffer, 0, count) {
-        Ok(()) => show::<K, R>(rt, label, buffer),
-        Err(refusal) => refused(rt, refusal),
+    draw(source, buffer, 0, count)?;
+    show(rt, label, buffer)?;
+    Ok(())
+}
+
+impl<K: Written> Patterns<K> {
+    fn plain<R: Print>(&mut self, rt: &R) -> Result<(), Failure> {
+        let taps = self.taps.as_slice();
+        let mut register = Register::new(self.kind, taps, self.stages.as_mut_slice());
+        words_of(
+            rt,
+            "  the register:",
+            &mut register,
+            self.buffer.as_mut_slice(),
+        )
     }
-}
 
-fn plain<K: Written, R: Print>(
-    rt: &R,
-    kind: K,
-    taps: &[K::Elem],
-    stages: &mut [K::Elem],
-    buffer: &mut [K::Elem],
-) -> io::Result<()> {
-    let mut register = Register::new(kind, taps, stages);
-    words_of(rt, "  the register:", &mut register, buffer)
-}
+    fn strided<R: Print>(&mut self, rt: &R) -> Result<(), Failure> {
+        let taps = self.taps.as_slice();
+        let register = Register::new(self.kind, taps, self.stages.as_mut_slice());
+        words_of(
+            rt,
+            "  every second word of it from here on:",
+            &mut Stride::new(register, 2),
+            self.buffer.as_mut_slice(),
+        )
+    }
 
-fn strided<K: Written, R: Print>(
-    rt: &R,
-    kind: K,
-    taps: &[K::Elem],
-    stages: &mut [K::Elem],
-    buffer: &mut [K::Elem],
-) -> io::Result<()> {
-    let mut source = Stride::new(Register::new(kind, taps, stages), 2);
-    words_of(
-        rt,
-        "  every second word of it from here on:",
-        &mut source,
-        buffer,
-    )
-}
+    fn summed<R: Print>(&mut self, rt: &R) -> Result<(), Failure> {
+        let taps = self.taps.as_slice();
+        let register = Register::new(self.kind, taps, self.stages.as_mut_slice());
+        let other = Register::new(self.kind, taps, self.others.as_mut_slice());
+        words_of(
+            rt,
+            "  it goes on, and a second register times a factor is added:",
+            &mut Sum::new(register, Scaling::new(other, self.by)),
+            self.buffer.as_mut_slice(),
+        )
+    }
 
-fn summed<K: Written, R: Print>(
-    rt: &R,
-    kind: K,
-    taps: &[K::Elem],
-    stages: &mut [K::Elem],
-    others: &mut [K::Elem],
-    by: K::Elem,
-    buffer: &mut [K::Elem],
-) -> io::Result<()> {
-    let scaled = Scaling::new(Register::new(kind, taps, others), by);
-    let mut source = Sum::new(Register::new(kind, taps, stages), scaled);
-    words_of(
-        rt,
-        "  it goes on, and a second register times a factor is added:",
-        &mut source,
-        buffer,
-    )
-}
-
-// The stages are lent again and again, so that each goes on where the one before it stopped.
-pub fn build<K: Written, R: Print>(
-    rt: &R,
-    kind: K,
-    taps: &[K::Elem],
-    stages: &mut [K::Elem],
-    others: &mut [K::Elem],
-    by: K::Elem,
-    buffer: &mut [K::Elem],
-) -> io::Result<()> {
-    plain(rt, kind, taps, stages, buffer)?;
-    strided(rt, kind, taps, stages, buffer)?;
-    summed(rt, kind, taps, stages, others, by, buffer)
+    pub fn build<R: Print>(&mut self, rt: &R) -> Result<(), Failure> {
+        self.plain(rt)?;
+        self.strided(rt)?;
+        self.summed(rt)
+    }
 }

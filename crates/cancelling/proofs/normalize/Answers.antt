@@ -1,5 +1,5 @@
 use Rattle.std.proofs.Common.{ℕ, ◌-◌, ◌≤◌, T, length, refl, inl, inr, arith}
-use Rattle.memory.proofs.Elements.{read_at, read_lawful}
+use Rattle.recurrence.proofs.Elements.{read_at, read_lawful}
 use Rattle.cancelling.proofs.Normals.{inverse_of, normal}
 use Rattle.cancelling.proofs.normalize.Goals as goal
 

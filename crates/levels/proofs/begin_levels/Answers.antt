@@ -3,15 +3,6 @@ use Rattle.rows.specs.Rows.{Holds, constant}
 use Rattle.levels.proofs.Turns.{part_long, put_here, put_size, put_others}
 use Rattle.levels.proofs.begin_levels.Goals as goal
 
-pub loop-i-init : goal.loop-i-init
-loop-i-init g c = (c.requires, λ j h. absurd (omega arith))
-
-pub row_start-a-requires : goal.row_start-a-requires
-row_start-a-requires g c = record { below = c.loop-i-test.true; size = c.loop-i.invariant.0 }
-
-pub begin_row-requires : goal.begin_row-requires
-begin_row-requires g c = omega (arith, part_long c.args.shape c.loop-i.finding c.row_start-a.result c.row_start-a.ensures.room)
-
 pub loop-i-preserved : goal.loop-i-preserved
 loop-i-preserved g c =
     let L = g.K.Kind.laws c.args.kind.now in

@@ -1,11 +1,8 @@
-use Rattle.std.proofs.Common.{ℕ, ◌*◌, ◌/◌, ◌^◌, ◌<◌, sym, ap, ◌∙◌, mul_assoc, mul_comm, pow-suc, mul-one, add-one, arith}
-use native.Mathlib.Nat.{pow-zero, div-lt_self}
+use Rattle.std.proofs.Common.{◌*◌, ◌/◌, ◌^◌, ◌<◌, sym, ap, ◌∙◌, mul_assoc, mul_comm, pow-suc, add-one, arith}
+use native.Mathlib.Nat.{div-lt_self}
 use Rattle.inverses.proofs.Bases.{listed_low}
 use Rattle.residue.specs.Laws.{exact, quotient_pos}
 use Rattle.residue.proofs.split_dividing.Goals as goal
-
-pub loop-u-init : goal.loop-u-init
-loop-u-init c = (ap (λ (x : ℕ). c.args.a * x) (pow-zero c.args.base.value) ∙ mul-one c.args.a, c.requires, omega arith)
 
 pub nonzero_rem-u : goal.nonzero_rem-u
 nonzero_rem-u c = omega (arith, listed_low c.args.base.value c.args.base.ok.0)

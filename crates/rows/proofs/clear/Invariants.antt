@@ -1,5 +1,5 @@
 use Rattle.std.proofs.Common.{◌≡◌, ℕ, ◌<◌, get_or}
 use Rattle.rows.proofs.clear.Given as goal
 
-abbrev pub invariant-loop-j : goal.invariant-loop-j
-invariant-loop-j g l = let R = g.K.Kind.ring l.kind in (j : ℕ) → j < l.j → get_or l.cells j R.zero ≡ R.zero
+abbrev pub invariant-loop-cell : goal.invariant-loop-cell
+invariant-loop-cell g l = let R = g.K.Kind.ring l.kind in (j : ℕ) → j < l.cell-index → get_or l.cell-items j R.zero ≡ R.zero

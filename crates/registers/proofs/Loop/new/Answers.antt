@@ -1,15 +1,12 @@
-use Rattle.std.proofs.Common.{◌≡◌, ℕ, ◌-◌, min, length, take, refl, ap, ◌∙◌, arith}
-use Rattle.sources.proofs.Turns.{take_min}
+use Rattle.std.proofs.Common.{rules}
+use Rattle.registers.specs.Registers.{loop_rows}
+use Rattle.registers.proofs.Making.{chosen}
 use Rattle.registers.proofs.Repeating.{made}
 use Rattle.registers.proofs.Loop.new.Goals as goal
 
-pub returns : goal.returns
-returns g c =
+pub returns-clause-list : goal.returns-clause-list
+returns-clause-list g c =
     let xs = c.args.elements.now in
-    let n : ℕ = c.loop_of.result in
-    let size : c.min-len.result - 0 ≡ min n (length xs) = omega arith in
-    record {
-      kind = refl;
-      list = made (g.K.Kind.laws c.args.kind) xs (take (c.min-len.result - 0) xs) n c.loop_of.ensures.accepted c.loop_of.ensures.refused
-          (ap (λ (k : ℕ). take k xs) size ∙ take_min n xs);
-    }
+    let used = c.map_or-elements.result.now in
+    rw c.begin.ensures.list (made (g.K.Kind.laws c.args.kind) xs used
+    (chosen (loop_rows (g.K.Kind.ring c.args.kind) xs) xs used c.check_loop.result c.check_loop.ensures (λ u e. search rules) (λ e r. search rules)))

@@ -1,4 +1,4 @@
-use Rattle.std.proofs.Common.{refl, arith}
+use Rattle.std.proofs.Common.{refl, ◌∙◌, arith}
 use Rattle.truncated.specs.Laws.{lawful_below}
 use Rattle.truncated.proofs.Inverting.{inverted_start, inverted_next, inverted_whole, unit_constant}
 use Rattle.truncated.proofs.TruncatedKind.inverse.Goals as goal
@@ -6,14 +6,14 @@ use Rattle.truncated.proofs.TruncatedKind.inverse.Goals as goal
 pub loop-k-init : goal.loop-k-init
 loop-k-init c one lt =
     let k = c.args.self.now in
-    inverted_start k.base.value k.base.ok.0 k.depth k.ok.1 c.args.u _ one lt c.inverse-constant.ensures
+    inverted_start k.base.value k.base.ok.0 k.depth k.ok.1 c.args.u _ one lt (rw c.from.ensures at c.inverse-constant.ensures)
 
 pub loop-k-preserved : goal.loop-k-preserved
 loop-k-preserved c one lt =
     let k = c.args.self.now in
     let l = c.loop-k in
     inverted_next k.base.value k.base.ok.0 k.depth k.ok.1 c.args.u l.w.coefficients l.k _ _ _ (omega arith) (omega arith) one lt
-    c.inverse-constant.ensures c.product_at.ensures.is refl (l.invariant one lt)
+    (rw c.from.ensures at c.inverse-constant.ensures) (c.from-in-loop-k.ensures ∙ c.product_at.ensures.is) refl (l.invariant one lt)
 
 pub returns : goal.returns
 returns c v hu hv e =
