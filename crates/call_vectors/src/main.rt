@@ -13,7 +13,7 @@ use on_found::FoundCall;
 use on_open::OpenCall;
 use ring::Kind;
 use std::io;
-use vectors::{Failure, Program, Written, number, read_kind, run};
+use vectors::{Failure, Program, Written, read_kind, run, size};
 
 // More calls than any list has.
 const CALLS: usize = 1000;
@@ -64,7 +64,7 @@ impl Program for Calls {
         fields: &mut Fields<'_>,
     ) -> Result<(), Failure> {
         let kind = read_kind::<K>(fields).or(Err(Failure::Unreadable))?;
-        let channels = number(fields)? as usize;
+        let channels = size(fields)?;
         let mut memory = Memory::new(rt.alloc(), kind, fields)?;
         let mut state = State::Taking(Open::new(kind, channels, memory.words.as_slice())?);
         rt.println("open")?;
