@@ -2,6 +2,8 @@
 #![tactic(auto)]
 
 ghost use Rattle.std.specs.Prelude.{◌≡◌, IfOk, take};
+ghost use Rattle.recurrence.specs.Findings.{Finding as FindingOf};
+ghost use Rattle.recurrence.specs.Words.{words as words_of};
 
 use annihilator::find;
 use judging::Finding;
@@ -28,7 +30,8 @@ impl<'w, K: Written> Searched<'w, K> {
         shape: Shape,
         words: &'w [K::Elem],
     ) -> Result<Searched<'w, K>, Failure>
-        ensures { IfOk result (λ s. (s.kind ≡ kind) × (s.shape ≡ shape) × (s.words.now ≡ words.now)) }
+        ensures capture { IfOk result (λ s. (s.kind ≡ kind) × (s.shape ≡ shape) × (s.words.now ≡ words.now)) }
+        ensures finding { IfOk result (λ s. FindingOf (K.ring kind) shape.count.words s.«record».levels s.cells.items shape.channels (words_of (K.ring kind) shape words.now)) }
     {
         let count = shape.count.words;
         let rows = count * shape.channels + 2 * kind.depth() + 12;
