@@ -4,3 +4,4 @@ pub mod Inverting
 pub mod Splitting
 pub mod Testing
 pub mod Filling
+pub mod Modulo

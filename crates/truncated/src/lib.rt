@@ -1,7 +1,7 @@
 // Kind T: polynomials in x over the numbers modulo a base, cut at x^d, in eight places.
 #![tactic(auto)]
 
-ghost use Rattle.std.specs.Prelude.{◌≡◌, ℕ, ◌+◌, ◌-◌, ◌%◌, ◌<◌, ◌≤◌, T, ◌⊎◌, [], ◌∷◌, length, slice_index};
+ghost use Rattle.std.specs.Prelude.{◌≡◌, ℕ, ◌+◌, ◌-◌, ◌*◌, ◌%◌, ◌<◌, ◌≤◌, T, ◌⊎◌, [], ◌∷◌, length, slice_index};
 ghost use Rattle.ring.specs.Refusals.{Call};
 ghost use Rattle.inverses.specs.Bases.{listed};
 ghost use Rattle.truncated.specs.Polynomials.{eight, polynomials};
@@ -17,26 +17,30 @@ pub use polynomial::Polynomial;
 use ring::{Kind, Refusal};
 use std::array;
 
-// x + y modulo p, of numbers below p.
-fn sum_below(p: u8, x: u8, y: u8) -> u8
-    ensures { x < p → y < p → result ≡ (x + y) % p }
+// x + y modulo p; where both are below p by comparing, else by a division.
+fn sum_modulo(p: u8, x: u8, y: u8) -> u8
+    requires { 1 ≤ p }
+    ensures { result ≡ (x + y) % p }
 {
-    let left = p.wrapping_sub(y);
-    if x < left {
-        x.wrapping_add(y)
+    let (p, sum) = (u16::from(p), u16::from(x) + u16::from(y));
+    let once = if sum < p { sum } else { sum - p };
+    if once < p {
+        once as u8
     } else {
-        x.wrapping_sub(left)
+        (sum % p) as u8
     }
 }
 
-// x - y modulo p, of numbers below p.
-fn difference_below(p: u8, x: u8, y: u8) -> u8
-    ensures { x < p → y < p → result ≡ (x + (p - y)) % p }
+// x - y modulo p, where the difference of two numbers modulo p is x + (p - 1) × y; where both are below p by comparing.
+fn difference_modulo(p: u8, x: u8, y: u8) -> u8
+    requires { 1 ≤ p }
+    ensures { result ≡ (x + (p - 1) * y) % p }
 {
-    if y <= x {
-        x - y
+    let once = if y <= x { x - y } else { p.wrapping_sub(y - x) };
+    if once < p {
+        once
     } else {
-        x.wrapping_add(p.wrapping_sub(y))
+        ((u16::from(x) + u16::from(p - 1) * u16::from(y)) % u16::from(p)) as u8
     }
 }
 
@@ -50,6 +54,13 @@ impl Truncated {
             return Err(Refusal::Depth);
         }
         Ok(Truncated { base, depth: d })
+    }
+
+    // The base.
+    fn modulus(self) -> u8
+        ensures { result ≡ self.base.value }
+    {
+        self.base.value as u8
     }
 
     // x^i.
@@ -120,23 +131,35 @@ impl Kind for Truncated {
     }
 
     fn add(&self, a: Polynomial, b: Polynomial) -> Polynomial {
-        let p = self.base.value as u8;
+        let p = self.modulus();
         Polynomial {
             coefficients: array::from_fn(
                 |j|
-                    requires { j < 8 }
-                { sum_below(p, a.coefficients[j], b.coefficients[j]) },
+                    requires { (j < 8) × (1 ≤ p) }
+                {
+                    if j < self.depth {
+                        sum_modulo(p, a.coefficients[j], b.coefficients[j])
+                    } else {
+                        0
+                    }
+                },
             ),
         }
     }
 
     fn sub(&self, a: Polynomial, b: Polynomial) -> Polynomial {
-        let p = self.base.value as u8;
+        let p = self.modulus();
         Polynomial {
             coefficients: array::from_fn(
                 |j|
-                    requires { j < 8 }
-                { difference_below(p, a.coefficients[j], b.coefficients[j]) },
+                    requires { (j < 8) × (1 ≤ p) }
+                {
+                    if j < self.depth {
+                        difference_modulo(p, a.coefficients[j], b.coefficients[j])
+                    } else {
+                        0
+                    }
+                },
             ),
         }
     }
