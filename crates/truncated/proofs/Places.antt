@@ -33,6 +33,11 @@ pub filled_places : (d : ℕ) (f : ℕ → ℕ) (xs : List ℕ) → length xs �
 unfolding places
 filled_places d f xs long each = fill_by_all (λ j. cond (nat_lt j d) (f j) 0) xs 8 0 long each
 
+-- cut at x, only the constant is left
+pub one_place : (f : ℕ → ℕ) (d x : ℕ) → d ≡ 1 → x ≡ f 0 → x ∷ 0 ∷ 0 ∷ 0 ∷ 0 ∷ 0 ∷ 0 ∷ 0 ∷ [] ≡ places d f
+unfolding places
+one_place f d x one e = rw one (ap (λ (n : ℕ). n ∷ 0 ∷ 0 ∷ 0 ∷ 0 ∷ 0 ∷ 0 ∷ 0 ∷ []) e)
+
 -- a polynomial is its places
 pub same_places : (xs ys : List ℕ) → xs ≡ ys → ◌≡◌ {A = Polynomial} (record { coefficients = xs }) (record { coefficients = ys })
 same_places xs ys e = ap (λ (zs : List ℕ). record { coefficients = zs }) e

@@ -164,7 +164,14 @@ impl Kind for Truncated {
         }
     }
 
+    // Where the depth is one there is one product, which is to stay in a register of the machine: hence inlined.
+    #[inline(always)]
     fn mul(&self, a: Polynomial, b: Polynomial) -> Polynomial {
+        if self.depth == 1 {
+            return Polynomial {
+                coefficients: [self.product_at(a, b, 0), 0, 0, 0, 0, 0, 0, 0],
+            };
+        }
         Polynomial {
             coefficients: array::from_fn(
                 |k|
