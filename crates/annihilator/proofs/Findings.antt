@@ -1,5 +1,5 @@
 -- From the levels as the search leaves them to a finding of the words.
-use Rattle.std.proofs.Common.{◌≡◌, ℕ, suc, ◌+◌, ◌*◌, ◌/◌, ◌%◌, ◌<◌, ◌≤◌, Bool, true, false, T, ◌⊎◌, List, ◌++◌, length, get_or, drop, sym, refl, ap, ◌∙◌, subst, inl, inr, mod-lt, div-lt_iff_lt-mul, mul-le-mul, arith, get_or-drop, get_or-take}
+use Rattle.std.proofs.Common.{◌≡◌, ℕ, ◌+◌, ◌*◌, ◌/◌, ◌%◌, ◌<◌, ◌≤◌, Bool, true, false, T, ◌⊎◌, List, ◌++◌, length, get_or, drop, sym, refl, ap, ◌∙◌, subst, inl, inr, mod-lt, div-lt_iff_lt-mul, mul-le-mul, arith, get_or-drop, get_or-take}
 use mathlib.Core.Path.{fun_ext}
 use native.Mathlib.Nat.{mod-add-div'}
 use native.Mathlib.Decide.{dec_lt}
@@ -23,7 +23,7 @@ use Rattle.elimination.proofs.Parts.{part_none}
 use Rattle.recurrence.specs.Lent.{ShortWords, ShortFinding}
 use Rattle.annihilator.specs.Calls.{work_size}
 use Rattle.levels.specs.Levels.{row_of, Found}
-use Rattle.levels.specs.Rounds.{Tables, AllBefore, Solved}
+use Rattle.levels.specs.Rounds.{Ready, Solved}
 use Rattle.levels.proofs.Turns.{part_row}
 
 module _ {E : Type 0} (R : Ring E) (shape : Shape) (ws fm work : List E) (fits : extent R shape.count.words ≤ length fm) (room : work_size R shape ≤ length work) where
@@ -61,17 +61,17 @@ module _ {E : Type 0} {R : Ring E} (L : Laws R) (shape : Shape) (ws : List E) wh
       by (no k) = absurd (L.power_not i h ((Lifts.power_is L i).eq ∙ ap (λ z. z.0) (sym monic.top ∙ part_none L fm (i * (e + 1)) (e + 1) m (omega arith)) ∙ sym (Lifts.zero_is L refl).eq))
 
   -- after the last degree every level is found
-  pub solved : (fm : List E) (levels : List Level) (places : List ℕ) → Tables L shape ws fm levels places → AllBefore L shape ws fm levels places (suc e) → Solved L shape ws fm levels
-  solved fm levels places tables before = record {
+  pub solved : (s : ℕ) (fm store : List E) (levels : List Level) (places : List ℕ) → Ready L shape ws fm levels places s store → e < s → Solved L shape ws fm levels
+  solved s fm store levels places ready past = record {
     marked = λ i h. is i h (get_or levels i blank).found refl;
-    found = λ i h. let f = (before i h).done (is i h (get_or levels i blank).found refl) in
+    found = λ i h. let f = (ready.before i h).done (is i h (get_or levels i blank).found refl) in
         record { lawful = f.lawful; answer = f.answer; small = omega (arith, top_within i (get_or levels i blank).length fm h f.answer.monic) };
-    rest = tables.rest;
+    rest = ready.tables.rest;
   }
     where
       is : (i : ℕ) → i < R.depth → (b : Bool) → (get_or levels i blank).found ≡ b → (get_or levels i blank).found ≡ true
       is i h true k = k
-      is i h false k = absurd (omega (arith, top_within i (suc e) fm h ((before i h).going k).monic))
+      is i h false k = absurd (omega (arith, past, top_within i s fm h ((ready.before i h).going k).monic))
 
   -- in larger memory
   pub solved_in : (new rest : List E) (levels : List Level) → R.depth * (e + 1) ≡ length new → Solved L shape ws new levels → Solved L shape ws (new ++ rest) levels

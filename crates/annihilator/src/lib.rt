@@ -12,6 +12,7 @@ use ring::{Kind, Refusal};
 use rows::clear;
 
 // Degree by degree, until every level is found.
+#[tactic(auto, using(crate::proofs::Findings::solved))]
 fn solve<K: Kind>(
     words: &Words<K>,
     store: &mut [K::Elem],

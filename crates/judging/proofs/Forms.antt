@@ -1,5 +1,5 @@
 -- The rows of a finding in its memory, and the tests of their leading and lowest coefficients.
-use Rattle.std.proofs.Common.{◌≡◌, ℕ, ◌+◌, ◌*◌, ◌<◌, ◌≤◌, Bool, T, ◌↔◌, List, get_or, sym, ap, ◌∙◌, arith}
+use Rattle.std.proofs.Common.{◌≡◌, ℕ, ◌+◌, ◌*◌, ◌<◌, ◌≤◌, Bool, T, ◌↔◌, List, length, get_or, sym, ap, ◌∙◌, arith}
 use Rattle.ring.specs.Ring.{Ring, Laws, power}
 use Rattle.ring.proofs.Loops.{lawful_at, place_inside}
 use Rattle.recurrence.specs.declared.shape.Shape.{Shape}
@@ -35,6 +35,12 @@ leads_told {R = R} L e levels fm i level x y told ok hi is short read y_is test 
 module _ {E : Type 0} {R : Ring E} (L : Laws R) (s : Shape) (levels : List Level) (fm : List E) (sound : Sound R s levels fm) where
   abbrev e : ℕ
   e = s.count.words
+
+  -- a row lies within the memory
+  pub row_fits : (i : ℕ) → i < R.depth → (long levels i ≤ e) × (i * (e + 1) + long levels i < length fm)
+  row_fits i hi =
+      let short = sound.formed.short i hi in
+      (short, omega (arith, sound.room, place_inside R.depth (e + 1) i (long levels i) hi (omega arith)))
 
   pub row_lawful : (i : ℕ) → i < R.depth → Lawful R (row R e levels fm i)
   row_lawful = Rows.row_lawful R e levels fm sound.formed L (lawful_below R fm (extent R e) sound.lawful)

@@ -14,6 +14,7 @@ mod sound;
 
 pub use finding::Finding;
 use memory::all_lawful;
+use recurrence::Shape;
 use ring::{Kind, Refusal, is_equal, is_zero};
 pub use sound::Sound;
 
@@ -99,8 +100,19 @@ impl<'f, K: Kind> Sound<'f, K> {
         ensures long { length result.now ≡ long self.now.«record».now.levels level + 1 }
         ensures lawful { Lawful (K.ring self.now.kind) (at (K.ring self.now.kind) result.now) }
     {
-        let start = level * (self.shape.count.words + 1);
-        let end = start + self.length(level) + 1;
-        &self.cells[start..end]
+        row_of(&self.shape, self.cells, level, self.length(level))
     }
+}
+
+// The part of a finding with the polynomial of a level. Its callers have found room for it.
+pub fn row_of<'a, E>(shape: &Shape, finding: &'a [E], level: usize, degree: usize) -> &'a [E]
+    requires low { level < 31 }
+    requires short { degree ≤ shape.now.count.words }
+    requires room { level * (shape.now.count.words + 1) + degree < length finding.now }
+    ensures is { result.now ≡ take (degree + 1) (drop (level * (shape.now.count.words + 1)) finding.now) }
+    ensures long { length result.now ≡ degree + 1 }
+{
+    let start = level * (shape.count.words + 1);
+    let end = start + degree + 1;
+    &finding[start..end]
 }

@@ -1,5 +1,5 @@
 -- What a round does to one level.
-use Rattle.std.proofs.Common.{◌≡◌, ℕ, zero, suc, ◌+◌, ◌-◌, ◌*◌, ◌<◌, ◌≤◌, Bool, true, false, T, List, length, sym, refl, ap, ◌∙◌, subst, arith}
+use Rattle.std.proofs.Common.{◌≡◌, ℕ, zero, suc, ◌+◌, ◌-◌, ◌*◌, ◌<◌, ◌≤◌, Bool, true, false, not, T, Option, None, Some, is_some, unwrap_or, MatchOption, List, length, sym, refl, ap, ◌∙◌, subst, arith}
 use mathlib.Core.Path.{fun_ext}
 use native.Mathlib.Decide.{dec_lt}
 use Rattle.ring.specs.Ring.{Ring, Laws}
@@ -16,7 +16,7 @@ use Rattle.elimination.specs.Stores.{Store, kept_level, kept_value, StuckAt, ToE
 use Rattle.places.proofs.Places.{row_next, counts_place, place_counts}
 use Rattle.places.proofs.Values.{chain, valued_level}
 use Rattle.rows.proofs.Scalings.{holds_cells, holds_lawful}
-use Rattle.levels.specs.Levels.{Found, Open, Stopped, Before, After}
+use Rattle.levels.specs.Levels.{Found, Open, Stopped, Before, After, Less}
 use Rattle.levels.specs.Rounds.{Whole}
 use Rattle.levels.proofs.Shifts as Shifts
 
@@ -35,6 +35,10 @@ module _ {E : Type 0} {R : Ring E} (L : Laws R) (shape : Shape) (ws : List E) wh
 
   pub level_bound : (store : List E) (q : ℕ) → kept_level L shape store q ≤ R.depth
   level_bound store q = (L.splits (kept_value L shape store q).0 (kept_value L shape store q).1).2.low
+
+  -- a level after degree s
+  abbrev pub ended : ℕ → Bool → Level
+  ended s found = record { length = s; found = found }
 
   -- what an open level gives to the elimination
   pub to_eliminate : (s i place : ℕ) (row store : List E) → s ≤ e → length row ≡ e + 1 → Store L shape ws s store → Open L shape ws s i row place → ToEliminate L shape ws s place row store
@@ -76,6 +80,20 @@ module _ {E : Type 0} {R : Ring E} (L : Laws R) (shape : Shape) (ws : List E) wh
             (valued_level L shape ws (value C (cells L new) q)) stuck.less op.none;
       };
     }
+
+    -- the level after degree s: it is found if there is no place where it is stuck, and then its place is the end
+    pub reduced : (place : Option ℕ) (found : Bool) (end q : ℕ) → is_some place ≡ not found → q ≡ unwrap_or place end
+        → MatchOption place (Zeros C s (places shape s) (cells L new)) (λ p. StuckAt L shape ws s new store p) → After L shape ws s i new (ended s found) q
+    reduced None true end q is at zeros = reduced_found (ended s true) q refl zeros
+    reduced None false end q is at zeros = absurd (not_both is refl)
+    reduced (Some p) true end q is at stuck = absurd (not_both refl is)
+    reduced (Some p) false end q is at stuck = reduced_stuck (ended s false) q refl (subst (StuckAt L shape ws s new store) (sym at) stuck)
+
+    pub reduced_less : (place : Option ℕ) (found : Bool) (end q : ℕ) → is_some place ≡ not found → q ≡ unwrap_or place end
+        → MatchOption place (Zeros C s (places shape s) (cells L new)) (λ p. StuckAt L shape ws s new store p) → Less L shape ws new (ended s found) q store
+    reduced_less place true end q is at ends h = absurd (not_both refl h)
+    reduced_less None false end q is at zeros h = absurd (not_both is refl)
+    reduced_less (Some p) false end q is at stuck h = (subst (StuckAt L shape ws s new store) (sym at) stuck).less
 
   -- a level found stays as it is
   pub found_after : (s i place : ℕ) (row : List E) (level : Level) → level.found ≡ true → Before L shape ws s i row level place → After L shape ws s i row level place

@@ -1,6 +1,7 @@
 -- The store stays complete over a whole round.
-use Rattle.std.proofs.Common.{◌≡◌, ℕ, suc, ◌+◌, ◌-◌, ◌*◌, ◌<◌, ◌≤◌, Bool, true, false, List, length, get_or, replicate, sym, refl, ◌∙◌, subst, inl, inr, arith}
+use Rattle.std.proofs.Common.{◌≡◌, ℕ, suc, ◌+◌, ◌-◌, ◌*◌, ◌<◌, ◌≤◌, Bool, true, false, not, Option, is_some, unwrap_or, List, length, get_or, take, drop, set, replicate, sym, refl, ◌∙◌, subst, inl, inr, arith, get_or-set_same}
 use native.Mathlib.Decide.{dec_lt}
+use borrow.Rule.Slice.PartMut.{put_mid}
 use Rattle.std.proofs.lemmas.List.{get_or-replicate, length-replicate, get_or_past}
 use Rattle.ring.specs.Ring.{Ring, Laws}
 use Rattle.ring.specs.Lawful.{Lawful, lifted, cells, level_of}
@@ -14,16 +15,16 @@ use Rattle.recurrence.proofs.Completes as Completes
 use Rattle.recurrence.proofs.Valuations as Val
 use Rattle.places.specs.Places.{capture_of}
 use Rattle.rows.specs.Rows.{Clear}
-use Rattle.elimination.specs.Stores.{Store, kept_level, kept_row, Grown}
+use Rattle.elimination.specs.Stores.{Store, kept_level, kept_row, Grown, Eliminated}
 use Rattle.places.proofs.Places.{counts_place}
 use Rattle.places.proofs.Values.{chain, valued_level}
 use Rattle.rows.proofs.Scalings.{clear_lawful, clear_cell}
 use Rattle.elimination.proofs.Parts.{part_cell, part_none}
-use Rattle.levels.specs.Levels.{row_of, Found, Stopped, Before, After, Less, Served}
+use Rattle.levels.specs.Levels.{row_of, Found, Open, Stopped, Before, After, Less, Served}
 use Rattle.levels.specs.Rounds.{Whole, Tables, AllAfter}
-use Rattle.levels.proofs.Levels.{level_bound}
+use Rattle.levels.proofs.Levels.{level_bound, ended, reduced, reduced_less}
 use Rattle.levels.proofs.Shifts as Shifts
-use Rattle.levels.proofs.Turns.{Turn, turn_done, turn_rest, turned}
+use Rattle.levels.proofs.Turns.{Turn, part_row, put_here, turn_put, turn_done, turn_rest, turned}
 
 pub get_or_same : {A : Type 0} (n i : ℕ) (a : A) → get_or (replicate n a) i a ≡ a
 get_or_same n i a = at (dec_lt i n)
@@ -155,6 +156,20 @@ module _ {E : Type 0} {R : Ring E} (L : Laws R) (shape : Shape) (ws : List E) wh
       after = turn_done shape (λ j row l p. After L shape ws s j row l p) i fm fm' levels levels' places places' turn r.after after;
       less = turn_done shape (λ j row l p. Less L shape ws row l p store) i fm fm' levels levels' places places' turn r.less less;
     }
+
+  -- one more row is reduced until it is stuck at a place, or cancels the words; then its place is the end
+  pub reduced_next : (s i a : ℕ) (fm new : List E) (levels : List Level) (places : List ℕ) (store : List E) (place : Option ℕ) (found : Bool) (end q : ℕ)
+      → a ≡ i * (e + 1) → a + (e + 1) ≤ length fm → length new ≡ e + 1 → i < R.depth → s ≤ e → Whole L shape ws s store → Reducing s i fm levels places store → (get_or levels i blank).found ≡ false
+      → Eliminated L shape ws s (take (a + (e + 1) - a) (drop a fm)) new store place → is_some place ≡ not found → q ≡ unwrap_or place end
+      → Reducing s (i + 1) (put_mid a (a + (e + 1) - a) fm new) (set levels i (ended L shape ws s found)) (set places i q) store
+  reduced_next s i a fm new levels places store place found end q ea room len below small whole inv going done is at =
+      let op = subst (λ r. Open L shape ws s i r (get_or places i 0)) (sym (part_row shape fm a i ea)) ((inv.before i below (omega arith)).going going) in
+      let er = put_here shape i a fm new ea room len in
+      let el = get_or-set_same levels i (ended L shape ws s found) blank (omega (arith, inv.tables.room, L.depth_high)) in
+      let ep = get_or-set_same places i q 0 (omega (arith, inv.tables.place_room, L.depth_high)) in
+      reducing_next i fm _ levels _ places _ (turn_put shape i a fm new levels (ended L shape ws s found) places q ea room len) below s store inv
+      (turned shape (λ r l p. After L shape ws s i r l p) er el ep (reduced L shape ws s i (get_or places i 0) _ new store small whole op done.row done.top place found end q is at done.ends))
+      (turned shape (λ r l p. Less L shape ws r l p store) er el ep (reduced_less L shape ws s i (get_or places i 0) _ new store small whole op done.row done.top place found end q is at done.ends))
 
   -- the level i, which is not kept yet, as it was reduced
   pub keeping_after : (s i : ℕ) (fm fm' : List E) (levels : List Level) (places places' : List ℕ) (store store' : List E) → i < R.depth

@@ -54,17 +54,17 @@ module _ {E : Type 0} (shape : Shape) where
   pub turn_none : (i : ℕ) (fm : List E) (levels : List Level) (places : List ℕ) → Turn i fm fm levels levels places places
   turn_none i fm levels places = record { size = refl; room = refl; place_room = refl; row = λ j _. refl; level = λ j _. refl; place = λ j _. refl }
 
-  -- a row and its level written
-  pub turn_level : (i a : ℕ) (fm new : List E) (levels : List Level) (level : Level) (places : List ℕ)
+  -- a row, its level and its place written
+  pub turn_put : (i a : ℕ) (fm new : List E) (levels : List Level) (level : Level) (places : List ℕ) (p : ℕ)
       → a ≡ i * (shape.count.words + 1) → a + (shape.count.words + 1) ≤ length fm → length new ≡ shape.count.words + 1
-      → Turn i fm (put_mid a (a + (shape.count.words + 1) - a) fm new) levels (set levels i level) places places
-  turn_level i a fm new levels level places ea room len = record {
+      → Turn i fm (put_mid a (a + (shape.count.words + 1) - a) fm new) levels (set levels i level) places (set places i p)
+  turn_put i a fm new levels level places p ea room len = record {
     size = put_size i a fm new ea room len;
     room = length-set levels i level;
-    place_room = refl;
+    place_room = length-set places i p;
     row = put_others i a fm new ea room len;
     level = λ j ne. get_or-set_other levels i j level blank ne;
-    place = λ j ne. refl;
+    place = λ j ne. get_or-set_other places i j p 0 ne;
   }
 
   -- a row and its place written

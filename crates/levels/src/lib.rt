@@ -9,7 +9,7 @@ ghost use Rattle.levels.specs.Rounds.{ToReduce, Reduced, ToKeepAll, Ready};
 
 use elimination::{eliminate, keep};
 use memory::Words;
-use places::{Polynomial, row_start};
+use places::{Polynomial, place_count, row_start};
 use recurrence::{Level, Record, Shape};
 use ring::Kind;
 use rows::{begin_row, raise_row};
@@ -39,23 +39,22 @@ pub fn reduce_levels<K: Kind>(
     ensures { Reduced (K.laws words.now.kind) words.now.shape words.now.cells.now finding.new table.new.levels places.new degree store.now }
 {
     let depth = words.kind.depth();
+    let end = place_count(words.shape, degree);
     for i in 0..depth {
         if table.levels[i].found {
             continue;
         }
         let a = row_start(i, words.shape.count.words + 1, depth, finding.len());
         let b = a + (words.shape.count.words + 1);
-        let Some(place) = eliminate(words, store, &mut finding[a..b], degree, places[i]) else {
-            table.put(
-                i,
-                Level {
-                    length: degree,
-                    found: true,
-                },
-            );
-            continue;
-        };
-        places[i] = place;
+        let place = eliminate(words, store, &mut finding[a..b], degree, places[i]);
+        places[i] = place.unwrap_or(end);
+        table.put(
+            i,
+            Level {
+                length: degree,
+                found: place.is_none(),
+            },
+        );
     }
 }
 

@@ -1,6 +1,7 @@
 -- Places of a capture as numbers.
-use Rattle.std.proofs.Common.{◌≡◌, ℕ, ◌+◌, ◌-◌, ◌*◌, ◌/◌, ◌<◌, ◌≤◌, ap, mul-le-mul_right, div-lt_iff_lt-mul, add-mul, arith}
+use Rattle.std.proofs.Common.{◌≡◌, ℕ, ◌+◌, ◌-◌, ◌*◌, ◌/◌, ◌%◌, ◌<◌, ◌≤◌, ap, mul-le-mul_right, div-lt_iff_lt-mul, add-mul, div-add-mod', arith}
 use Rattle.recurrence.specs.declared.shape.Shape.{Shape}
+use Rattle.recurrence.specs.Words.{place}
 use Rattle.places.specs.Places.{places}
 
 -- a row ends where the next begins
@@ -24,6 +25,13 @@ module _ (shape : Shape) where
 
   pub wide : 0 < n
   wide = omega (arith, shape.ok)
+
+  -- the place q lies where it is numbered
+  pub place_of : (q : ℕ) → place shape (q / n) (q % n) ≡ q
+  place_of q = div-add-mod' q n
+
+  pub held_within : e * n ≤ shape.capacity * n
+  held_within = mul-le-mul_right {m = e} {n = shape.capacity} n shape.ok.0
 
   -- a place that counts for the degree m, j ≤ m words on
   pub place_within : (q m j : ℕ) → m ≤ e → j ≤ m → q < places shape m → q + j * n < e * n

@@ -2,9 +2,10 @@
 // The functions here ask what the crates above meet: no user of the library calls them.
 #![tactic(auto)]
 
-ghost use Rattle.std.specs.Prelude.{◌≡◌, ◌+◌, ◌*◌, ◌<◌, ◌≤◌, MatchOption};
+ghost use Rattle.std.specs.Prelude.{◌≡◌, ℕ, ◌+◌, ◌*◌, ◌/◌, ◌%◌, ◌<◌, ◌≤◌, length, slice_index_or, MatchOption};
 ghost use Rattle.ring.specs.Lawful.{Is, cells};
 ghost use Rattle.recurrence.proofs.Captures.{value, Zeros};
+ghost use Rattle.recurrence.specs.Words.{place};
 ghost use Rattle.places.specs.Places.{places, capture_of, Scanned};
 
 mod polynomial;
@@ -12,6 +13,15 @@ mod polynomial;
 pub use polynomial::Polynomial;
 use recurrence::Shape;
 use ring::{Kind, is_zero};
+
+// The element at the place q of words of which nothing is known but their room. Where they are lawful, `Words::at` says so too.
+pub fn read<E: Copy>(shape: Shape, words: &[E], q: usize) -> E
+    requires room { shape.capacity * shape.channels ≤ length words.now }
+    requires within { q < shape.count.words * shape.channels }
+    ensures { (z : E) → result ≡ slice_index_or words.now (place shape (q / shape.channels) (q % shape.channels)) z }
+{
+    words[q]
+}
 
 // How many places count for a polynomial of this degree.
 pub fn place_count(shape: Shape, degree: usize) -> usize

@@ -1,10 +1,8 @@
-use Rattle.std.proofs.Common.{◌≡◌, ℕ, suc, List, length, get_or, sym, refl, ap, ◌∙◌, subst, arith}
+use Rattle.std.proofs.Common.{◌≡◌, ℕ, List, length, get_or, sym, refl, ap, ◌∙◌, arith}
 use Rattle.recurrence.specs.declared.shape.Level.{Level}
-use Rattle.levels.specs.Rounds.{AllBefore}
 use Rattle.recurrence.specs.Findings.{blank}
 use Rattle.levels.proofs.Levels.{started}
 use Rattle.levels.proofs.Rounds.{get_or_same, store_start, whole_start}
-use Rattle.annihilator.proofs.Findings.{solved}
 use Rattle.annihilator.proofs.solve.Goals as goal
 
 pub loop-degree-init : goal.loop-degree-init
@@ -21,14 +19,3 @@ loop-degree-init g c =
       whole = whole_start L shape ws c.clear.new.cells;
       before = λ i h. started L shape ws i _ _ _ (none i) (get_or_same 31 i 0) (c.begin_levels.ensures i (omega (arith, c.depth.ensures.is)));
     }
-
-pub returns-2 : goal.returns-2
-returns-2 g c =
-    let words = c.args.words.now in
-    let L = g.K.Kind.laws words.kind in
-    let fm = c.keep_levels.new.finding in
-    let levels = c.reduce_levels.new.table.levels in
-    let places = c.keep_levels.new.places in
-    let last : c.loop-degree.degree ≡ words.shape.count.words = omega (arith, c.loop-degree.auto.degree-end) in
-    solved L words.shape words.cells.now fm levels places c.keep_levels.ensures.tables
-    (subst (λ z. AllBefore L words.shape words.cells.now fm levels places (suc z)) last c.keep_levels.ensures.before)

@@ -1,11 +1,9 @@
-use Rattle.std.proofs.Common.{◌≡◌, ◌+◌, ◌-◌, ◌<◌, true, length, get_or, set, sym, refl, ap, ◌∙◌, subst, arith, get_or-set_same}
-use borrow.Rule.Slice.PartMut.{put_mid}
-use Rattle.recurrence.specs.declared.shape.Level.{Level}
+use Rattle.std.proofs.Common.{◌<◌, get_or, sym, ◌∙◌, subst, arith, rules}
 use Rattle.recurrence.specs.Findings.{blank}
-use Rattle.levels.specs.Levels.{row_of, Open, After, Less}
-use Rattle.levels.proofs.Turns.{part_row, part_long, put_here, turn_level, turn_place, turn_none, turned}
-use Rattle.levels.proofs.Rounds.{Reducing, reducing_next}
-use Rattle.levels.proofs.Levels.{to_eliminate, reduced_found, reduced_stuck, found_after, not_both}
+use Rattle.levels.specs.Levels.{row_of, Open}
+use Rattle.levels.proofs.Turns.{part_row, part_long, turn_none}
+use Rattle.levels.proofs.Rounds.{reducing_next, reduced_next}
+use Rattle.levels.proofs.Levels.{to_eliminate, found_after, not_both}
 use Rattle.levels.proofs.reduce_levels.Goals as goal
 
 pub loop-i-init : goal.loop-i-init
@@ -28,8 +26,8 @@ loop-i-preserved-then-table-i g c =
     (found_after L shape ws s i (get_or places i 0) (row_of shape fm i) (get_or levels i blank) c.if-table-i.true (inv.before i below (omega arith)))
     (λ h. absurd (not_both c.if-table-i.true h))
 
-pub eliminate-requires : goal.eliminate-requires
-eliminate-requires g c =
+pub eliminate-place-requires : goal.eliminate-place-requires
+eliminate-place-requires g c =
     let words = c.args.words.now in
     let L = g.K.Kind.laws words.kind in
     let shape = words.shape in
@@ -46,35 +44,6 @@ eliminate-requires g c =
     to_eliminate L shape ws s i _ _ c.args.store.now c.requires.small (part_long shape fm a room) c.requires.ready.kept
     (subst (λ r. Open L shape ws s i r (get_or places i 0)) (sym (part_row shape fm a i ea)) ((inv.before i below (omega arith)).going c.if-table-i.false))
 
-pub loop-i-preserved-in_default : goal.loop-i-preserved-in_default
-loop-i-preserved-in_default g c =
-    let words = c.args.words.now in
-    let L = g.K.Kind.laws words.kind in
-    let shape = words.shape in
-    let ws = words.cells.now in
-    let s = c.args.degree in
-    let i = c.loop-i.i in
-    let fm = c.loop-i.finding in
-    let places = c.loop-i.places in
-    let inv = c.loop-i.invariant in
-    let below : i < (g.K.Kind.ring words.kind).depth = omega (arith, c.loop-i-test.true, c.depth-depth.ensures.is) in
-    let a = c.row_start-a.result in
-    let ea = c.row_start-a.ensures.at in
-    let room = c.row_start-a.ensures.room in
-    let levels = c.loop-i.table.levels in
-    let new = c.eliminate.new.row in
-    let len = c.eliminate.auto.row ∙ part_long shape fm a room in
-    let found : Level = record { length = s; found = true } in
-    let fits : i < length levels = omega (arith, inv.tables.room, L.depth_high) in
-    let is : get_or (set levels i found) i blank ≡ found = get_or-set_same levels i found blank fits in
-    let op = subst (λ r. Open L shape ws s i r (get_or places i 0)) (sym (part_row shape fm a i ea)) ((inv.before i below (omega arith)).going c.if-table-i.false) in
-    let done = c.in_default.ensures in
-    subst (λ z. Reducing L shape ws s (i + 1) (put_mid a (a + (shape.count.words + 1) - a) fm new) z places c.args.store.now) (sym c.put.ensures)
-    (reducing_next L shape ws i fm _ levels (set levels i found) places places (turn_level shape i a fm new levels found places ea room len) below s c.args.store.now inv
-    (subst (λ r. After L shape ws s i r (get_or (set levels i found) i blank) (get_or places i 0)) (sym (put_here shape i a fm new ea room len))
-    (reduced_found L shape ws s i (get_or places i 0) _ new c.args.store.now c.requires.small c.requires.ready.whole op done.row done.top _ _ is done.ends))
-    (λ h. absurd (not_both (ap (λ (l : Level). l.found) is) h)))
-
 pub loop-i-preserved : goal.loop-i-preserved
 loop-i-preserved g c =
     let words = c.args.words.now in
@@ -84,25 +53,15 @@ loop-i-preserved g c =
     let s = c.args.degree in
     let i = c.loop-i.i in
     let fm = c.loop-i.finding in
-    let places = c.loop-i.places in
-    let inv = c.loop-i.invariant in
     let below : i < (g.K.Kind.ring words.kind).depth = omega (arith, c.loop-i-test.true, c.depth-depth.ensures.is) in
     let a = c.row_start-a.result in
     let ea = c.row_start-a.ensures.at in
     let room = c.row_start-a.ensures.room in
-    let levels = c.loop-i.table.levels in
-    let new = c.eliminate.new.row in
-    let len = c.eliminate.auto.row ∙ part_long shape fm a room in
-    let q = c.in-Some.place in
-    let fits : i < length places = omega (arith, inv.tables.place_room, L.depth_high) in
-    let op = subst (λ r. Open L shape ws s i r (get_or places i 0)) (sym (part_row shape fm a i ea)) ((inv.before i below (omega arith)).going c.if-table-i.false) in
-    let done = c.in-Some.ensures in
-    let er = put_here shape i a fm new ea room len in
-    let ep = get_or-set_same places i q 0 fits in
-    reducing_next L shape ws i fm _ levels levels places (set places i q) (turn_place shape i a fm new levels places q ea room len) below s c.args.store.now inv
-    (turned shape (λ r l p. After L shape ws s i r l p) er refl ep
-    (reduced_stuck L shape ws s i (get_or places i 0) _ new c.args.store.now c.requires.small c.requires.ready.whole op done.row done.top (get_or levels i blank) q c.if-table-i.false done.ends))
-    (turned shape (λ r l p. Less L shape ws r l p c.args.store.now) {level = get_or levels i blank} er refl ep (λ _. done.ends.less))
+    let new = c.eliminate-place.new.row in
+    let len = c.eliminate-place.auto.row ∙ part_long shape fm a room in
+    rw c.put.ensures
+    (reduced_next L shape ws s i a fm new c.loop-i.table.levels c.loop-i.places c.args.store.now c.eliminate-place.result _ c.place_count-end.result _ ea room len
+    below c.requires.small c.requires.ready.whole c.loop-i.invariant c.if-table-i.false c.eliminate-place.ensures (search rules) (search rules))
 
 pub returns : goal.returns
 returns g c =
