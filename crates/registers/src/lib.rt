@@ -1,12 +1,12 @@
 // Registers and loops: sources that stand on lent memory. One text serves every kind.
 #![tactic(auto)]
 
-ghost use Rattle.std.specs.Prelude.{◌≡◌, ℕ, ◌+◌, ◌≤◌, min, length, take};
+ghost use Rattle.std.specs.Prelude.{◌≡◌, ℕ, ◌+◌, ◌≤◌, T, length, take};
 ghost use Rattle.ring.specs.declared.Refusal.{Refusal as Reason};
 ghost use Rattle.ring.specs.Lawful.{AllLawful, lifted};
 ghost use Rattle.ring.specs.Refusals.{Call, Passes, Refuses};
 ghost use Rattle.sources.specs.Window.{values, beyond};
-ghost use Rattle.registers.specs.Registers.{degree, register_rows, loop_rows, Registers, Repeats, dot as products, continued, repeated, continued_lawful, repeated_lawful};
+ghost use Rattle.registers.specs.Registers.{degree, register_rows, loop_rows, Registers, Repeats, dot as products, continued, repeated};
 
 use memory::all_lawful;
 use ring::{Kind, Refusal, is_equal};
@@ -109,7 +109,7 @@ impl<'t, 'c, K: Kind> Register<'t, 'c, K> {
         requires stages { AllLawful (K.laws kind) (take (degree coefficients.now) stages.now) }
         ensures kind { result.kind ≡ kind }
         ensures list { ⟦<Register<'t, 'c, K> as Source<K>>⟧.list result ≡ continued (K.laws kind) coefficients.now (take (degree coefficients.now) stages.old) }
-        ensures stages { result.line.len ≡ min (degree coefficients.now) (length stages.old) }
+        ensures stages { result.line.len ≡ degree coefficients.now }
         ensures cells { result.line.cells.now ≡ stages.old }
         ensures lent { result.line.cells.ghost_name ≡ stages.entry.ghost_name }
     {
@@ -148,6 +148,7 @@ impl<'t, 'c, K: Kind> Source<K> for Register<'t, 'c, K> {
     // The cells past its stages stay as they are.
     fn next(&mut self) -> K::Elem
         ensures first { result ≡ ⟦<Register<'t, 'c, K> as Source<K>>⟧.list self.old 0 }
+        ensures lawful { T ((K.ring self.old.kind).lawful result) }
         ensures later { (t : ℕ) → ⟦<Register<'t, 'c, K> as Source<K>>⟧.list self.new t ≡ ⟦<Register<'t, 'c, K> as Source<K>>⟧.list self.old (t + 1) }
         ensures same { self.new.kind ≡ self.old.kind }
         ensures beyond { beyond self.new.line ≡ beyond self.old.line }
@@ -157,8 +158,6 @@ impl<'t, 'c, K: Kind> Source<K> for Register<'t, 'c, K> {
         let following = self.following();
         self.line.push(following)
     }
-
-    ghost lawful = { λ s t. continued_lawful (K.laws s.kind) s.coefficients.now (values s.line) t };
 }
 
 // Whether a loop may be made of these elements. Foreign: one that is not lawful. Span: none.
@@ -235,6 +234,4 @@ impl<K: Kind> Source<K> for Loop<'_, K> {
         self.place = place + 1;
         elements[place]
     }
-
-    ghost lawful = { λ s t. repeated_lawful (K.laws s.kind) s.elements.now s.place t };
 }
