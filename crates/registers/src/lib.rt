@@ -10,8 +10,8 @@ ghost use Rattle.registers.specs.Registers.{degree, register_rows, loop_rows, Re
 
 use memory::all_lawful;
 use ring::{Kind, Refusal, is_equal};
-use sources::Source;
 use sources::delay::DelayLine;
+use sources::{Source, hold};
 
 // The most stages of a register.
 pub const MOST: usize = 128;
@@ -173,13 +173,12 @@ pub fn check_loop<K: Kind>(kind: &K, elements: &[K::Elem]) -> Result<(), Refusal
     Ok(())
 }
 
-// A list of lawful elements in lent memory that is repeated.
+// A list in lent memory that is repeated.
 #[derive(Drop)]
 pub struct Loop<'t, K: Kind> {
     kind: K,
     elements: &'t [K::Elem],
     place: usize,
-    ghost lawful_elements: { AllLawful (K.laws kind) elements.now },
 }
 
 impl<'t, K: Kind> Loop<'t, K> {
@@ -201,9 +200,8 @@ impl<'t, K: Kind> Loop<'t, K> {
         Ok(Loop::begin(kind, elements))
     }
 
-    // The loop of lawful elements.
+    // The loop of these elements, from the first on.
     fn begin(kind: K, elements: &'t [K::Elem]) -> Loop<'t, K>
-        requires { AllLawful (K.laws kind) elements.now }
         ensures kind { result.kind ≡ kind }
         ensures list { ⟦<Loop<'t, K> as Source<K>>⟧.list result ≡ repeated (K.laws kind) elements.now 0 }
     {
@@ -232,6 +230,6 @@ impl<K: Kind> Source<K> for Loop<'_, K> {
         }
         let place = self.place % len;
         self.place = place + 1;
-        elements[place]
+        hold(&self.kind, elements[place])
     }
 }

@@ -1,4 +1,5 @@
-// What code above may do with sources: rest on the range of a field, keep a stack in a field, move one to another thread, read one in two kinds.
+// What code above may do with sources: rest on the range of a field, keep a stack in a field, move one to another thread, read one in two kinds,
+// keep several in an array.
 ghost use Rattle.std.specs.Prelude.{◌≡◌};
 
 use bits::Bits;
@@ -7,6 +8,7 @@ use residue::Residue;
 use ring::Kind;
 use sources::Source;
 use sources::adapters::{Scaling, Stride, Sum};
+use sources::delay::DelayLine;
 
 // One byte again and again, of the numbers modulo 256: lawful, since a byte is below 256.
 pub struct Steady {
@@ -60,4 +62,15 @@ pub fn bits_of<A: Source<Residue> + Source<Bits>, B: Source<Residue> + Source<Bi
     ensures { result ≡ ⟦<Sum<A, B> as Source<Bits>>⟧.list both.old 0 }
 {
     <Sum<A, B> as Source<Bits>>::next(both)
+}
+
+// Lines and loops are reached in an array that is lent.
+fn through(lines: &mut [DelayLine<'_, u8>; 2], x: u8) -> u8 {
+    let y = lines[0].push(x);
+    lines[1].push(y)
+}
+
+fn second(loops: &mut [Loop<'_, Residue>; 2]) -> u32 {
+    let _ = loops[0].next();
+    loops[1].next()
 }

@@ -1,5 +1,6 @@
 // A delay line over memory that is lent: what goes in comes out again after as many others as the line is long.
-ghost use Rattle.std.specs.Prelude.{◌≤◌, length};
+ghost use Rattle.std.specs.Prelude.{◌≡◌, ℕ, ◌+◌, [], ◌∷◌, ◌++◌, length, take, drop};
+ghost use Rattle.sources.specs.Window.{values, beyond};
 
 // Its values lie in the first `len` cells, or in all where there are fewer: the oldest at the place `at`, those that came after it behind it,
 // and then from the first cell on.
@@ -8,14 +9,9 @@ pub struct DelayLine<'c, T> {
     cells: &'c mut [T],
     len: usize,
     at: usize,
-    ghost place: { at ≤ len },
-    ghost room: { at ≤ length cells.now },
 }
 
 impl<'c, T: Copy> DelayLine<'c, T> {
-    ghost use Rattle.std.specs.Prelude.{◌≡◌, ℕ, ◌+◌, [], ◌∷◌, ◌++◌, take, drop};
-    ghost use Rattle.sources.specs.Window.{values, beyond};
-
     // The line in the first `len` cells, or in all where there are fewer. They hold its values, the oldest first.
     pub fn new(cells: &'c mut [T], len: usize) -> DelayLine<'c, T>
         ensures values { values result ≡ take len cells.old }
@@ -29,14 +25,17 @@ impl<'c, T: Copy> DelayLine<'c, T> {
     pub fn older(&self) -> &[T]
         ensures { result.now ≡ drop self.now.at (take self.now.len self.now.cells.now) }
     {
-        &self.cells[self.at..self.len.min(self.cells.len())]
+        let end = self.len.min(self.cells.len());
+        let start = self.at.min(end);
+        &self.cells[start..end]
     }
 
     // The values after those, from the first cell on.
     pub fn newer(&self) -> &[T]
         ensures { result.now ≡ take self.now.at (take self.now.len self.now.cells.now) }
     {
-        &self.cells[..self.at]
+        let end = self.len.min(self.cells.len()).min(self.at);
+        &self.cells[..end]
     }
 
     // Puts x in as the newest value, and takes the oldest one out: x itself, where the line has no length.

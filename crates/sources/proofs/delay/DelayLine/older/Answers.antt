@@ -1,10 +1,7 @@
-use Rattle.std.proofs.Common.{ap, ◌∙◌, drop, take, arith}
-use Rattle.sources.proofs.Turns.{older_inside, take_min}
+use Rattle.sources.proofs.Turns.{older_is}
 use Rattle.sources.proofs.delay.DelayLine.older.Goals as goal
 
 pub returns : goal.returns
 returns g c =
-    let line = c.args.self.now in
-    let cells = line.cells.now in
-    older_inside cells line.at c.min.result (omega (arith, c.min.ensures, line.place, line.room))
-    ∙ ap (λ n. drop line.at (take n cells)) c.min.ensures ∙ ap (drop line.at) (take_min line.len cells)
+    let s = c.args.self.now in
+    older_is s.cells.now s.len s.at c.min-end.result c.min-start.result c.min-end.ensures c.min-start.ensures
