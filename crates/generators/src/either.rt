@@ -29,6 +29,4 @@ impl<K: Kind, A: Source<K>, B: Source<K>> Source<K> for Either<A, B> {
             Either::Second(b) => b.next(),
         }
     }
-
-    ghost lawful = { elim [ First a ↦ A.Source.lawful a | Second b ↦ B.Source.lawful b ] };
 }

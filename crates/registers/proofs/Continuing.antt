@@ -111,7 +111,7 @@ module _ {E : Type 0} {R : Ring E} (L : Laws R) where
         ap (λ (n : ℕ). (run (lifted L) n (cells L cs) n (cells L ys) t).0) length_same
         ∙ ap (λ (a : Element L). a.0) (run_later (lifted L) (length xs) (cells L cs) (cells L xs) (cells L ys) later_inner later_last t)
 
-    both_lawful : AllLawful L xs → AllLawful L (out ∷ ys)
+    pub both_lawful : AllLawful L xs → AllLawful L (out ∷ ys)
     both_lawful h j = lawful_at L (ap (λ l. get_or l j R.zero) pushed) (append_lawful xs (x ∷ []) h (one_lawful x (Lifts.ok L follows)) j)
 
     pub pushed_lawful : AllLawful L xs → AllLawful L ys

@@ -5,7 +5,7 @@ use Rattle.ring.specs.declared.Refusal.{Refusal}
 use Rattle.ring.specs.Refusals.{Passes, Refuses}
 use Rattle.ring.specs.Ring.{Ring, Laws}
 use Rattle.ring.specs.Commutative.{CommRing, sum}
-use Rattle.ring.specs.Lawful.{Lawful as Element, lifted, cells, AllLawful}
+use Rattle.ring.specs.Lawful.{Lawful as Element, lifted, hold, cells}
 use Rattle.ring.proofs.Lifts as Lifts
 use Rattle.ring.proofs.Sums as Sums
 use Rattle.recurrence.proofs.Elements.{lawful_all}
@@ -44,9 +44,10 @@ module _ {A : Type 0} (R : CommRing A) where
 
 module _ {E : Type 0} {R : Ring E} (L : Laws R) where
   -- the element at a place, and those after it
-  pub repeated_first : (xs : List E) (place : ℕ) (x : E) → AllLawful L xs → x ≡ get_or xs (place % length xs) R.zero → x ≡ repeated L xs place 0
-  repeated_first xs place x all e =
-      (Lifts.is_same L e (Lifts.cell_is L xs (place % length xs) all)).eq ∙ ap (λ (i : ℕ). (cells L xs (i % length xs)).0) (sym (add-zero place))
+  pub repeated_first : (xs : List E) (place : ℕ) (x : E) → x ≡ get_or xs (place % length xs) R.zero → (hold L x).0 ≡ repeated L xs place 0
+  unfolding cells
+  repeated_first xs place x e =
+      ap (λ (a : E). (hold L a).0) (e ∙ ap (λ (i : ℕ). get_or xs (i % length xs) R.zero) (sym (add-zero place)))
 
   pub repeated_later : (xs : List E) (place t : ℕ) → repeated L xs (place % length xs + 1) t ≡ repeated L xs place (t + 1)
   repeated_later xs place t =

@@ -1,5 +1,5 @@
 -- What registers and loops refuse, and the lists that they have.
-use Rattle.std.specs.Prelude.{◌≡◌, ℕ, ◌+◌, ◌-◌, ◌%◌, ◌<◌, cond, ◌≢◌, ◌⊎◌, T, List, [], ◌∷◌, length, ◌==◌}
+use Rattle.std.specs.Prelude.{◌≡◌, ℕ, ◌+◌, ◌-◌, ◌%◌, ◌<◌, cond, ◌≢◌, ◌⊎◌, List, [], ◌∷◌, length, ◌==◌}
 use Rattle.ring.specs.declared.Refusal.{Refusal}
 use Rattle.ring.specs.declared.Refusal.TheVariants.{Short, Foreign, Stages, Span}
 use Rattle.ring.specs.Refusals.{Row, Passes, Refuses}
@@ -58,9 +58,3 @@ module _ {E : Type 0} {R : Ring E} (L : Laws R) where
   -- the elements from a place on, again and again
   abbrev pub repeated : List E → ℕ → ℕ → E
   repeated elements place t = (cells L elements ((place + t) % length elements)).0
-
-  pub continued_lawful : (coefficients values : List E) (t : ℕ) → T (R.lawful (continued coefficients values t))
-  continued_lawful coefficients values t = (run (lifted L) (length values) (cells L coefficients) (length values) (cells L values) t).1
-
-  pub repeated_lawful : (elements : List E) (place t : ℕ) → T (R.lawful (repeated elements place t))
-  repeated_lawful elements place t = (cells L elements ((place + t) % length elements)).1

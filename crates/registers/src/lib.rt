@@ -1,17 +1,17 @@
 // Registers and loops: sources that stand on lent memory. One text serves every kind.
 #![tactic(auto)]
 
-ghost use Rattle.std.specs.Prelude.{◌≡◌, ℕ, ◌+◌, ◌≤◌, min, length, take};
+ghost use Rattle.std.specs.Prelude.{◌≡◌, ℕ, ◌+◌, ◌≤◌, T, length, take};
 ghost use Rattle.ring.specs.declared.Refusal.{Refusal as Reason};
 ghost use Rattle.ring.specs.Lawful.{AllLawful, lifted};
 ghost use Rattle.ring.specs.Refusals.{Call, Passes, Refuses};
 ghost use Rattle.sources.specs.Window.{values, beyond};
-ghost use Rattle.registers.specs.Registers.{degree, register_rows, loop_rows, Registers, Repeats, dot as products, continued, repeated, continued_lawful, repeated_lawful};
+ghost use Rattle.registers.specs.Registers.{degree, register_rows, loop_rows, Registers, Repeats, dot as products, continued, repeated};
 
 use memory::all_lawful;
 use ring::{Kind, Refusal, is_equal};
-use sources::Source;
 use sources::delay::DelayLine;
+use sources::{Source, hold};
 
 // The most stages of a register.
 pub const MOST: usize = 128;
@@ -109,7 +109,7 @@ impl<'t, 'c, K: Kind> Register<'t, 'c, K> {
         requires stages { AllLawful (K.laws kind) (take (degree coefficients.now) stages.now) }
         ensures kind { result.kind ≡ kind }
         ensures list { ⟦<Register<'t, 'c, K> as Source<K>>⟧.list result ≡ continued (K.laws kind) coefficients.now (take (degree coefficients.now) stages.old) }
-        ensures stages { result.line.len ≡ min (degree coefficients.now) (length stages.old) }
+        ensures stages { result.line.len ≡ degree coefficients.now }
         ensures cells { result.line.cells.now ≡ stages.old }
         ensures lent { result.line.cells.ghost_name ≡ stages.entry.ghost_name }
     {
@@ -148,6 +148,7 @@ impl<'t, 'c, K: Kind> Source<K> for Register<'t, 'c, K> {
     // The cells past its stages stay as they are.
     fn next(&mut self) -> K::Elem
         ensures first { result ≡ ⟦<Register<'t, 'c, K> as Source<K>>⟧.list self.old 0 }
+        ensures lawful { T ((K.ring self.old.kind).lawful result) }
         ensures later { (t : ℕ) → ⟦<Register<'t, 'c, K> as Source<K>>⟧.list self.new t ≡ ⟦<Register<'t, 'c, K> as Source<K>>⟧.list self.old (t + 1) }
         ensures same { self.new.kind ≡ self.old.kind }
         ensures beyond { beyond self.new.line ≡ beyond self.old.line }
@@ -157,8 +158,6 @@ impl<'t, 'c, K: Kind> Source<K> for Register<'t, 'c, K> {
         let following = self.following();
         self.line.push(following)
     }
-
-    ghost lawful = { λ s t. continued_lawful (K.laws s.kind) s.coefficients.now (values s.line) t };
 }
 
 // Whether a loop may be made of these elements. Foreign: one that is not lawful. Span: none.
@@ -174,13 +173,12 @@ pub fn check_loop<K: Kind>(kind: &K, elements: &[K::Elem]) -> Result<(), Refusal
     Ok(())
 }
 
-// A list of lawful elements in lent memory that is repeated.
+// A list in lent memory that is repeated.
 #[derive(Drop)]
 pub struct Loop<'t, K: Kind> {
     kind: K,
     elements: &'t [K::Elem],
     place: usize,
-    ghost lawful_elements: { AllLawful (K.laws kind) elements.now },
 }
 
 impl<'t, K: Kind> Loop<'t, K> {
@@ -202,9 +200,8 @@ impl<'t, K: Kind> Loop<'t, K> {
         Ok(Loop::begin(kind, elements))
     }
 
-    // The loop of lawful elements.
+    // The loop of these elements, from the first on.
     fn begin(kind: K, elements: &'t [K::Elem]) -> Loop<'t, K>
-        requires { AllLawful (K.laws kind) elements.now }
         ensures kind { result.kind ≡ kind }
         ensures list { ⟦<Loop<'t, K> as Source<K>>⟧.list result ≡ repeated (K.laws kind) elements.now 0 }
     {
@@ -233,8 +230,6 @@ impl<K: Kind> Source<K> for Loop<'_, K> {
         }
         let place = self.place % len;
         self.place = place + 1;
-        elements[place]
+        hold(&self.kind, elements[place])
     }
-
-    ghost lawful = { λ s t. repeated_lawful (K.laws s.kind) s.elements.now s.place t };
 }

@@ -7,13 +7,15 @@ ghost use Rattle.ring.specs.Refusals.{Passes, Refuses};
 ghost use Rattle.recurrence.specs.Memory.{at};
 ghost use Rattle.sources.specs.Makers.{stride_rows};
 ghost use Rattle.registers.specs.Registers.{loop_rows, Registers};
-ghost use Rattle.source_tests.specs.Numbers.{ring, counted_lawful};
+ghost use Rattle.source_tests.specs.Numbers.{ring};
 
 use registers::{Loop, Register};
 use residue::Residue;
 use ring::{Kind, Refusal};
 use sources::adapters::{Scaling, Stride, Sum};
 use sources::{Source, draw};
+
+pub mod users;
 
 // Counts up modulo the number of elements of its kind.
 #[derive(Clone, Copy)]
@@ -36,8 +38,6 @@ impl Source<Residue> for Counter {
         self.count = word + 1;
         word
     }
-
-    ghost lawful = { λ s t. counted_lawful s.kind (s.count + t) };
 }
 
 // Fills the buffer with every m-th number that the counter counts; with zeros for an m that is refused.

@@ -32,18 +32,18 @@ impl<R: Print, K: Written> Stacking<'_, R, K> {
         Ok(Stride::new::<K>(source, self.stride))
     }
 
-    fn scaled<S: Source<K> + Drop>(&self, source: S) -> io::Result<Scaling<K, S>> {
+    fn scaled<S: Source<K> + Drop>(&self, source: S) -> io::Result<Scaling<S, K::Elem>> {
         self.print_check(check_scaling(&source, self.factor))?;
-        Ok(Scaling::new(source, self.factor))
+        Ok(Scaling::new::<K>(source, self.factor))
     }
 
     fn summed<A: Source<K> + Drop, B: Source<K> + Drop>(
         &self,
         a: A,
         b: B,
-    ) -> io::Result<Sum<K, A, B>> {
+    ) -> io::Result<Sum<A, B>> {
         self.print_check(check_sum::<K, A, B>(&a, &b))?;
-        Ok(Sum::new(a, b))
+        Ok(Sum::new::<K>(a, b))
     }
 
     fn print_words<S: Source<K> + Drop>(&self, mut source: S) -> io::Result<()> {

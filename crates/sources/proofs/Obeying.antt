@@ -38,13 +38,13 @@ module _ {E : Type 0} {R : Ring E} (L : Laws R) (D : ℕ) (q : ℕ → E) where
     cancels = λ t. from_zero L (cancelled (λ _. R.zero) (λ _. (lifted L).𝟘) ov.lawful (λ _. Lifts.zero_is L refl) t) (Rec.act_zero (lifted L) (suc D) (lift L q) (λ _. (lifted L).𝟘) t (λ _ _. refl));
   }
 
-  pub scaled_obeys : (c : E) → T (R.lawful c) → (w : ℕ → E) → Lawful R w → Obeys R D q w → Obeys R D q (scaled R c w)
-  scaled_obeys c hc w ok ow =
-      combined (λ _. R.zero) w (λ _. (lifted L).𝟘) (lift L w) (λ _. Lifts.zero_is L refl) (lift_is L w ok) (zeros_obey w ow) ow (hold L c) (scaled R c w)
-      (λ t. Lifts.is_at L (sym (Sums.zero_add (lifted L) _)) (Lifts.mul_is L (Lifts.hold_is L c hc) (lift_is L w ok t) (λ _ _. refl)))
+  pub scaled_obeys : (c : E) (w : ℕ → E) → Lawful R w → Obeys R D q w → Obeys R D q (scaled L c w)
+  scaled_obeys c w ok ow =
+      combined (λ _. R.zero) w (λ _. (lifted L).𝟘) (lift L w) (λ _. Lifts.zero_is L refl) (lift_is L w ok) (zeros_obey w ow) ow (hold L c) (scaled L c w)
+      (λ t. Lifts.is_at L (sym (Sums.zero_add (lifted L) _)) (Lifts.mul_is L (record { eq = refl }) (lift_is L w ok t) (λ _ _. refl)))
 
-  pub summed_obeys : (alike : Bool) (v w : ℕ → E) → Lawful R v → (T alike → Lawful R w) → Obeys R D q v → Obeys R D q w → Obeys R D q (summed R alike v w)
+  pub summed_obeys : (alike : Bool) (v w : ℕ → E) → Lawful R v → (T alike → Lawful R w) → Obeys R D q v → Obeys R D q w → Obeys R D q (summed L alike v w)
   summed_obeys true v w okv okw ov ow =
-      combined v w (lift L v) (lift L w) (lift_is L v okv) (lift_is L w (okw tt)) ov ow (lifted L).𝟙 (summed R true v w)
-      (λ t. Lifts.is_at L (ap ((lifted L).◌⊕◌ (lift L v t)) (sym (Sums.one_mul (lifted L) (lift L w t)))) (Lifts.add_is L (lift_is L v okv t) (lift_is L w (okw tt) t) (λ _ _. refl)))
+      combined v w (lift L v) (lift L w) (lift_is L v okv) (lift_is L w (okw tt)) ov ow (lifted L).𝟙 (summed L true v w)
+      (λ t. Lifts.is_at L (ap ((lifted L).◌⊕◌ (lift L v t)) (sym (Sums.one_mul (lifted L) (lift L w t)))) (Lifts.add_is L (lift_is L v okv t) (record { eq = refl }) (λ _ _. refl)))
   summed_obeys false v w okv okw ov ow = zeros_obey v ov

@@ -1,5 +1,5 @@
 -- The values of a delay line as its cells turn round.
-use Rattle.std.proofs.Common.{◌≡◌, ℕ, suc, ◌+◌, ◌-◌, ◌<◌, ◌≤◌, min, List, [], ◌∷◌, ◌++◌, length, get_or, take, drop, set, sym, ap, ◌∙◌, append_assoc, append-nil, add-one, arith, drop_of_length-le, length-take, take_all, drop-cons, get_or-take, take-suc-set, drop-set-lt}
+use Rattle.std.proofs.Common.{◌≡◌, ℕ, suc, ◌+◌, ◌-◌, ◌<◌, ◌≤◌, min, List, [], ◌∷◌, ◌++◌, length, get_or, take, drop, set, sym, ap, ◌∙◌, append_assoc, append-nil, add-one, arith, drop_of_length-le, length-take, take_all, drop-cons, get_or-take, take-take, take-suc-set, drop-set-lt}
 use native.Mathlib.Decide.{dec_lt}
 use lib.Seq.{take-set-lt, take-nil, drop-nil}
 use Rattle.std.proofs.lemmas.List.{drop-take}
@@ -14,8 +14,35 @@ module _ {A : Type 0} where
       at (no h) = let e : min n (length xs) ≡ length xs = omega arith in rw e (take_all (length xs) xs (omega arith) ∙ sym (take_all n xs (omega arith)))
 
   -- the part of a list from a place on, up to another
-  pub older_inside : (xs : List A) (at end : ℕ) → at ≤ end → take (end - at) (drop at xs) ≡ drop at (take end xs)
+  older_inside : (xs : List A) (at end : ℕ) → at ≤ end → take (end - at) (drop at xs) ≡ drop at (take end xs)
   older_inside xs at end h = sym (ap (λ (n : ℕ). drop at (take n xs)) (omega arith) ∙ drop-take at (end - at) xs)
+
+  older_whole : (xs : List A) (at end start : ℕ) → end ≤ length xs → start ≡ min at end → take (end - start) (drop start xs) ≡ drop at (take end xs)
+  older_whole xs at end start h e = by_cases (dec_lt end at)
+    where
+      by_cases : Dec (end < at) → take (end - start) (drop start xs) ≡ drop at (take end xs)
+      by_cases (yes b) =
+          let none : end - start ≡ 0 = omega arith in
+          let size : length (take end xs) ≤ at = simp length-take (omega arith) in
+          ap (λ (n : ℕ). take n (drop start xs)) none ∙ sym (drop_of_length-le (take end xs) {i = at} size)
+      by_cases (no b) = let same : start ≡ at = omega arith in rw same (older_inside xs at end (omega arith))
+
+  pub older_is : (xs : List A) (n at end start : ℕ) → end ≡ min n (length xs) → start ≡ min at end → take (end - start) (drop start xs) ≡ drop at (take n xs)
+  older_is xs n at end start e s = older_whole xs at end start (omega arith) s ∙ ap (drop at) (ap (λ (k : ℕ). take k xs) e ∙ take_min n xs)
+
+  newer_whole : (xs : List A) (at n : ℕ) → n ≤ length xs → take (min n at) xs ≡ take at (take n xs)
+  newer_whole xs at n h = by_cases (dec_lt n at)
+    where
+      by_cases : Dec (n < at) → take (min n at) xs ≡ take at (take n xs)
+      by_cases (yes b) =
+          let e : min n at ≡ n = omega arith in
+          let size : length (take n xs) ≤ at = simp length-take (omega arith) in
+          rw e (sym (take_all at (take n xs) size))
+      by_cases (no b) = let e : min n at ≡ at = omega arith in rw e (sym (take-take at n xs (omega arith)))
+
+  pub newer_is : (xs : List A) (n at end : ℕ) → end ≡ min (min n (length xs)) at → take end xs ≡ take at (take n xs)
+  newer_is xs n at end e =
+      ap (λ (k : ℕ). take k xs) (omega arith) ∙ newer_whole xs at (min n (length xs)) (omega arith) ∙ ap (take at) (take_min n xs)
 
   -- a place past the end is the first
   pub turned_past : (xs : List A) (at : ℕ) → length xs ≤ at → turned at xs ≡ turned 0 xs

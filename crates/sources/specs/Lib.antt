@@ -1,3 +1,2 @@
 pub mod Makers
 pub mod Window
-pub mod Lawful

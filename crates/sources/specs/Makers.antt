@@ -3,7 +3,8 @@ use Rattle.std.specs.Prelude.{◌≡◌, ℕ, ◌+◌, ◌*◌, ◌≤◌, Bool,
 use Rattle.ring.specs.declared.Refusal.{Refusal}
 use Rattle.ring.specs.declared.Refusal.TheVariants.{Foreign, Span, Short}
 use Rattle.ring.specs.Refusals.{Row, Passes, Refuses}
-use Rattle.ring.specs.Ring.{Ring}
+use Rattle.ring.specs.Ring.{Ring, Laws}
+use Rattle.ring.specs.Lawful.{hold}
 
 -- a source made of what has these reasons to be refused: where none fits its list is w, else it has zeros only
 pub record Makes {E : Type 0} (rows : List Row) (R : Ring E) (w made : ℕ → E) : Type 0 where
@@ -31,10 +32,11 @@ module _ {E : Type 0} (R : Ring E) where
   abbrev pub strided : ℕ → (ℕ → E) → ℕ → E
   strided m w t = cond (m == 0) R.zero (w (m * t))
 
-  -- the sums of two lists of one kind; zeros of lists that are not of one kind
+module _ {E : Type 0} {R : Ring E} (L : Laws R) where
+  -- the sums of two lists of one kind, those of the second as far as they are lawful; zeros of lists that are not of one kind
   abbrev pub summed : Bool → (ℕ → E) → (ℕ → E) → ℕ → E
-  summed alike v w t = cond alike (R.add (v t) (w t)) R.zero
+  summed alike v w t = cond alike (R.add (v t) (hold L (w t)).0) R.zero
 
-  -- each element times c
+  -- each element times c, as far as c is lawful
   abbrev pub scaled : E → (ℕ → E) → ℕ → E
-  scaled c w t = R.mul c (w t)
+  scaled c w t = R.mul (hold L c).0 (w t)

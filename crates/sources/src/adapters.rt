@@ -3,11 +3,9 @@ ghost use Rattle.std.specs.Prelude.{◌≡◌, ℕ, ◌+◌, ◌*◌, T};
 ghost use Rattle.ring.specs.Refusals.{Call};
 ghost use Rattle.recurrence.specs.Polynomials.{Obeys};
 ghost use Rattle.sources.specs.Makers.{Makes, stride_rows, sum_rows, scaling_rows, strided, summed, scaled};
-ghost use Rattle.sources.specs.Lawful.{strided_lawful, summed_lawful};
 
 use crate::{Source, hold, skip};
 use ring::{Kind, Refusal};
-use std::marker::PhantomData;
 
 // The longest stride.
 pub const LONGEST: usize = 65_536;
@@ -64,6 +62,7 @@ impl<K: Kind, S: Source<K>> Source<K> for Stride<S> {
     // Each of its elements moves its source by the stride.
     fn next(&mut self) -> K::Elem
         ensures first { result ≡ ⟦<Stride<S> as Source<K>>⟧.list self.old 0 }
+        ensures lawful { T ((K.Kind.ring (⟦<Stride<S> as Source<K>>⟧.kind_of self.old)).lawful result) }
         ensures later { (t : ℕ) → ⟦<Stride<S> as Source<K>>⟧.list self.new t ≡ ⟦<Stride<S> as Source<K>>⟧.list self.old (t + 1) }
         ensures same { ⟦<Stride<S> as Source<K>>⟧.kind_of self.new ≡ ⟦<Stride<S> as Source<K>>⟧.kind_of self.old }
         ensures step { self.new.step ≡ self.old.step }
@@ -76,8 +75,6 @@ impl<K: Kind, S: Source<K>> Source<K> for Stride<S> {
         skip(&mut self.inner, self.step - 1);
         word
     }
-
-    ghost lawful = { λ s. strided_lawful (K.laws (S.kind_of s.inner)) s.step (S.list s.inner) (S.lawful s.inner) };
 }
 
 // Whether the sum of two sources may be made: foreign unless they are of one kind.
@@ -91,52 +88,43 @@ pub fn check_sum<K: Kind, A: Source<K>, B: Source<K>>(a: &A, b: &B) -> Result<()
     }
 }
 
-// The sums of the elements of two sources; zeros of the first one's kind, unless they are alike.
+// The sums of the elements of two sources.
 #[derive(Drop)]
-pub struct Sum<K: Kind, A: Source<K>, B: Source<K>> {
+pub struct Sum<A, B> {
     a: A,
     b: B,
     alike: bool,
-    of: PhantomData<K>,
-    ghost one_kind: { T alike → A.kind_of a ≡ B.kind_of b },
 }
 
-impl<K: Kind, A: Source<K>, B: Source<K>> Sum<K, A, B> {
+impl<A, B> Sum<A, B> {
     // The sum of two sources; of two that are refused, zeros of the first one's kind. It obeys what both of them obey.
-    pub fn new(a: A, b: B) -> Sum<K, A, B>
+    pub fn new<K: Kind>(a: A, b: B) -> Sum<A, B>
+    where
+        A: Source<K>,
+        B: Source<K>,
         ensures parts { (result.a ≡ a) × (result.b ≡ b) }
         ensures list { Makes (sum_rows (A.Source.kind_of a) (B.Source.kind_of b)) (K.Kind.ring (A.Source.kind_of a)) (λ t. (K.Kind.ring (A.Source.kind_of a)).add (A.Source.list a t) (B.Source.list b t))
-            (⟦<Sum<K, A, B> as Source<K>>⟧.list result) }
+            (summed (K.Kind.laws (A.Source.kind_of result.a)) result.alike (A.Source.list result.a) (B.Source.list result.b)) }
         ensures obeys { (D : ℕ) (q : ℕ → K.Elem) → Obeys (K.Kind.ring (A.Source.kind_of a)) D q (A.Source.list a) → Obeys (K.Kind.ring (A.Source.kind_of a)) D q (B.Source.list b)
-            → Obeys (K.Kind.ring (A.Source.kind_of a)) D q (⟦<Sum<K, A, B> as Source<K>>⟧.list result) }
+            → Obeys (K.Kind.ring (A.Source.kind_of a)) D q (summed (K.Kind.laws (A.Source.kind_of result.a)) result.alike (A.Source.list result.a) (B.Source.list result.b)) }
     {
         let alike = a.kind().same(&b.kind());
-        Sum {
-            a,
-            b,
-            alike,
-            of: PhantomData,
-        }
+        Sum { a, b, alike }
     }
 
     // The two sources that it moved.
     pub fn into_parts(self) -> (A, B)
         ensures { (result.0 ≡ self.a) × (result.1 ≡ self.b) }
     {
-        let Sum {
-            a,
-            b,
-            alike: _,
-            of: _,
-        } = self;
+        let Sum { a, b, alike: _ } = self;
         (a, b)
     }
 }
 
-impl<K: Kind, A: Source<K>, B: Source<K>> Source<K> for Sum<K, A, B> {
+impl<K: Kind, A: Source<K>, B: Source<K>> Source<K> for Sum<A, B> {
     ghost kind_of = { λ s. A.Source.kind_of s.a };
 
-    ghost list = { λ s t. summed (K.ring (A.kind_of s.a)) s.alike (A.list s.a) (B.list s.b) t };
+    ghost list = { λ s t. summed (K.Kind.laws (A.Source.kind_of s.a)) s.alike (A.Source.list s.a) (B.Source.list s.b) t };
 
     fn kind(&self) -> K {
         self.a.kind()
@@ -149,10 +137,9 @@ impl<K: Kind, A: Source<K>, B: Source<K>> Source<K> for Sum<K, A, B> {
         }
         let x = self.a.next();
         let y = self.b.next();
+        let y = hold(&kind, y);
         kind.add(x, y)
     }
-
-    ghost lawful = { λ s. summed_lawful K.ring K.laws (A.kind_of s.a) (B.kind_of s.b) s.alike s.one_kind (A.list s.a) (B.list s.b) (A.lawful s.a) (B.lawful s.b) };
 }
 
 // Whether a source may be scaled by c: foreign unless c is lawful in its kind.
@@ -166,25 +153,29 @@ pub fn check_scaling<K: Kind, S: Source<K>>(source: &S, c: K::Elem) -> Result<()
     }
 }
 
-// The elements of a source, each times a fixed one, which is lawful in its kind.
+// The elements of a source, each times a fixed one.
 #[derive(Drop)]
-pub struct Scaling<K: Kind, S: Source<K>> {
+pub struct Scaling<S, E> {
     inner: S,
-    by: K::Elem,
-    ghost lawful: { T ((K.ring (S.kind_of inner)).lawful by) },
+    by: E,
 }
 
-impl<K: Kind, S: Source<K>> Scaling<K, S> {
+impl<S, E> Scaling<S, E> {
     // The source scaled by c; by a c that is refused, zeros. It obeys what its source obeys.
-    pub fn new(inner: S, c: K::Elem) -> Scaling<K, S>
+    pub fn new<K: Kind<Elem = E>>(inner: S, c: E) -> Scaling<S, E>
+    where
+        S: Source<K>,
         ensures inner { result.inner ≡ inner }
-        ensures list { Makes (scaling_rows (K.Kind.ring (S.kind_of inner)) c) (K.Kind.ring (S.kind_of inner)) (λ t. (K.Kind.ring (S.kind_of inner)).mul c (S.list inner t)) (⟦<Scaling<K, S> as Source<K>>⟧.list result) }
-        ensures obeys { (D : ℕ) (q : ℕ → K.Elem) → Obeys (K.Kind.ring (S.kind_of inner)) D q (S.list inner) → Obeys (K.Kind.ring (S.kind_of inner)) D q (⟦<Scaling<K, S> as Source<K>>⟧.list result) }
+        ensures list { Makes (scaling_rows (K.Kind.ring (S.kind_of inner)) c) (K.Kind.ring (S.kind_of inner)) (λ t. (K.Kind.ring (S.kind_of inner)).mul c (S.list inner t))
+            (scaled (K.Kind.laws (S.kind_of result.inner)) result.by (S.list result.inner)) }
+        ensures obeys { (D : ℕ) (q : ℕ → E) → Obeys (K.Kind.ring (S.kind_of inner)) D q (S.list inner) → Obeys (K.Kind.ring (S.kind_of inner)) D q (scaled (K.Kind.laws (S.kind_of result.inner)) result.by (S.list result.inner)) }
     {
         let by = hold(&inner.kind(), c);
         Scaling { inner, by }
     }
+}
 
+impl<S, E: Drop> Scaling<S, E> {
     // The source that it moved.
     pub fn into_inner(self) -> S
         ensures { result ≡ self.inner }
@@ -194,10 +185,10 @@ impl<K: Kind, S: Source<K>> Scaling<K, S> {
     }
 }
 
-impl<K: Kind, S: Source<K>> Source<K> for Scaling<K, S> {
-    ghost kind_of = { λ s. S.kind_of s.inner };
+impl<K: Kind, S: Source<K>> Source<K> for Scaling<S, K::Elem> {
+    ghost kind_of = { λ s. S.Source.kind_of s.inner };
 
-    ghost list = { λ s t. scaled (K.ring (S.kind_of s.inner)) s.by (S.list s.inner) t };
+    ghost list = { λ s t. scaled (K.Kind.laws (S.Source.kind_of s.inner)) s.by (S.Source.list s.inner) t };
 
     fn kind(&self) -> K {
         self.inner.kind()
@@ -205,8 +196,8 @@ impl<K: Kind, S: Source<K>> Source<K> for Scaling<K, S> {
 
     fn next(&mut self) -> K::Elem {
         let kind = self.inner.kind();
-        kind.mul(self.by, self.inner.next())
+        let word = self.inner.next();
+        let by = hold(&kind, self.by);
+        kind.mul(by, word)
     }
-
-    ghost lawful = { λ s t. (K.laws (S.kind_of s.inner)).ring_laws.mul_lawful s.by (S.list s.inner t) s.lawful (S.lawful s.inner t) };
 }

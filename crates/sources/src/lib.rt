@@ -19,18 +19,17 @@ pub trait Source<K: Kind> {
 
     ghost list: { Self → ℕ → K.Elem };
 
-    // Its kind; nothing changes.
+    // Its kind; nothing changes, and every element to come is lawful in it.
     fn kind(&self) -> K
-        ensures { result ≡ kind_of self.now };
+        ensures is { result ≡ kind_of self.now }
+        ensures lawful { (t : ℕ) → T ((K.ring (kind_of self.now)).lawful (list self.now t)) };
 
     // The next element; afterwards the list begins at the one after it.
     fn next(&mut self) -> K::Elem
         ensures first { result ≡ list self.old 0 }
+        ensures lawful { T ((K.ring (kind_of self.old)).lawful result) }
         ensures later { (t : ℕ) → list self.new t ≡ list self.old (t + 1) }
         ensures same { kind_of self.new ≡ kind_of self.old };
-
-    // Every element to come is lawful in its kind.
-    ghost lawful: { (s : Self) (t : ℕ) → T ((K.ring (kind_of s)).lawful (list s t)) };
 }
 
 // A source that is lent.
@@ -46,8 +45,6 @@ impl<K: Kind, S: Source<K>> Source<K> for &mut S {
     fn next(&mut self) -> K::Elem {
         (**self).next()
     }
-
-    ghost lawful = { λ s. S.lawful s.now };
 }
 
 // An element as a lawful one: itself where it is lawful, else zero.

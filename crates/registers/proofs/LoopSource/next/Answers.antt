@@ -20,7 +20,7 @@ returns-clause-first g c =
     let xs = s.elements.now in
     let some : 0 < length xs = omega arith in
     let within : s.place % length xs < length xs = mod-lt s.place some in
-    repeated_first (g.K.Kind.laws s.kind) xs s.place c.index-elements-place.result s.lawful_elements (get_or_read xs (s.place % length xs) _ within c.index-elements-place.is _)
+    c.hold.ensures ∙ repeated_first (g.K.Kind.laws s.kind) xs s.place c.index-elements-place.result (get_or_read xs (s.place % length xs) _ within c.index-elements-place.is _)
 
 pub returns-clause-later : goal.returns-clause-later
 returns-clause-later g c =

@@ -1,7 +1,7 @@
-use Rattle.sources.proofs.Turns.{older_inside}
+use Rattle.sources.proofs.Turns.{older_is}
 use Rattle.sources.proofs.delay.DelayLine.older.Goals as goal
 
 pub returns : goal.returns
 returns g c =
-    let line = c.args.self.now in
-    older_inside line.cells.now line.at line.len line.place
+    let s = c.args.self.now in
+    older_is s.cells.now s.len s.at c.min-end.result c.min-start.result c.min-end.ensures c.min-start.ensures
