@@ -88,11 +88,7 @@ impl Kind for Residue {
 
     fn add(&self, a: u32, b: u32) -> u32 {
         let sum = a.wrapping_add(b);
-        if sum < self.size {
-            sum
-        } else {
-            sum - self.size
-        }
+        sum.min(sum.wrapping_sub(self.size))
     }
 
     fn sub(&self, a: u32, b: u32) -> u32 {
