@@ -113,16 +113,21 @@ fn print_refusals(rt: &HostRuntime, kind: Residue, shape: Shape) -> io::Result<(
     print_tried(rt, &finding, &mut [0; 257])
 }
 
-fn main(rt: HostRuntime) -> Result<(), Failure> {
+// The finding as it is, what is refused, and the finding of two channels.
+fn hand_to_all(rt: &HostRuntime) -> Result<(), Failure> {
     let kind = Residue::new(2, 2)?;
     let shape = Shape::full(1, 4)?;
     let table = lengths(2, 0);
-    print_answers(&rt, &handed(kind, shape, &table, &CELLS))?;
-    print_refusals(&rt, kind, shape)?;
+    print_answers(rt, &handed(kind, shape, &table, &CELLS))?;
+    print_refusals(rt, kind, shape)?;
     // Two words of two channels: 2 and 2, 0 and 0.
     let pairs = handed(kind, Shape::full(2, 2)?, &table, &PAIRS);
-    print_verdict(&rt, pairs.settled())?;
-    print_tried(&rt, &pairs, &mut [0; 257])?;
-    print_next(&rt, &pairs)?;
+    print_verdict(rt, pairs.settled())?;
+    print_tried(rt, &pairs, &mut [0; 257])?;
+    print_next(rt, &pairs)?;
     Ok(())
+}
+
+fn main(rt: HostRuntime) -> io::Result<()> {
+    hand_to_all(&rt).or_else(|failure| failure.tell(&rt))
 }

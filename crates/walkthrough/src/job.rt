@@ -5,7 +5,6 @@ use recurrence::Record;
 use registers::Register;
 use ring::Kind;
 use sources::Source;
-use std::alloc::{AllocError, Global};
 use std::io;
 use vectors::{Failure, Written};
 
@@ -18,29 +17,18 @@ pub struct Sheet<'s, E> {
     pub foreign: &'s [E],
 }
 
-// The memory that a bench lends to a capture, and the record of its finding.
+// The memory that is lent to a capture at the bench, and the record of its finding.
 #[derive(Drop)]
-pub struct Bench<K: Kind> {
-    kind: K,
-    words: Vec<K::Elem>,
-    finding: Vec<K::Elem>,
-    work: Vec<K::Elem>,
-    buffer: Vec<K::Elem>,
-    record: Record,
+pub struct Bench<'w, 'f, 'k, 'b, K: Kind> {
+    pub kind: K,
+    pub words: &'w mut [K::Elem],
+    pub finding: &'f mut [K::Elem],
+    pub work: &'k mut [K::Elem],
+    pub buffer: &'b mut [K::Elem],
+    pub record: Record,
 }
 
-impl<K: Written> Bench<K> {
-    pub fn new(heap: Global, kind: K) -> Result<Bench<K>, AllocError> {
-        Ok(Bench {
-            kind,
-            words: vec![in heap; kind.zero(); 8]?,
-            finding: vec![in heap; kind.zero(); 32]?,
-            work: vec![in heap; kind.zero(); 256]?,
-            buffer: vec![in heap; kind.zero(); 4]?,
-            record: Record::unfound(),
-        })
-    }
-
+impl<'w, 'f, 'k, 'b, K: Written> Bench<'w, 'f, 'k, 'b, K> {
     // The next m words of the board.
     fn draw<S: Source<K>, R: Print>(
         &mut self,
@@ -49,7 +37,7 @@ impl<K: Written> Bench<K> {
         source: &mut S,
         m: usize,
     ) -> io::Result<()> {
-        match open.draw(self.words.as_mut_slice(), source, m) {
+        match open.draw(self.words, source, m) {
             Ok(()) => println!(rt; "  drawn: {m} words"),
             Err(refusal) => refused(rt, refusal),
         }
@@ -58,7 +46,7 @@ impl<K: Written> Bench<K> {
     // One word by hand.
     fn feed<R: Print>(&mut self, rt: &R, open: &mut Open<K>, word: &[K::Elem]) -> io::Result<()> {
         show(rt, "  fed by hand:", word)?;
-        match open.feed(self.words.as_mut_slice(), word) {
+        match open.feed(self.words, word) {
             Ok(()) => Ok(()),
             Err(refusal) => refused(rt, refusal),
         }
@@ -67,12 +55,10 @@ impl<K: Written> Bench<K> {
     // The length of the first 0, 1, .. words.
     fn profile<R: Print>(&mut self, rt: &R, open: &mut Open<K>) -> io::Result<()> {
         let mut numbers = [0usize; 5];
-        let answer = open.profile(
-            self.words.as_slice(),
-            &mut numbers,
-            self.work.as_mut_slice(),
-            self.finding.as_mut_slice(),
-        );
+        let words = &mut *self.words;
+        let work = &mut *self.work;
+        let finding = &mut *self.finding;
+        let answer = open.profile(words, &mut numbers, work, finding);
         match answer {
             Ok(()) => show(
                 rt,
@@ -89,7 +75,7 @@ impl<K: Written> Bench<K> {
         for (i, level) in self.record.levels.iter().take(depth).enumerate() {
             println!(rt; "  length at level {i}: {}", level.length)?;
         }
-        match found.settled(&self.record, self.finding.as_slice()) {
+        match found.settled(&self.record, self.finding) {
             Ok(true) => rt.println("  settled"),
             Ok(false) => rt.println("  not settled: more words are wanted"),
             Err(refusal) => refused(rt, refusal),
@@ -99,11 +85,13 @@ impl<K: Written> Bench<K> {
     // How many coefficients a polynomial leaves, which is tried in the buffer.
     fn try_taps<R: Print>(&mut self, rt: &R, found: &Found<K>, taps: &[K::Elem]) -> io::Result<()> {
         show(rt, "  tried, lowest first:", taps)?;
-        let Some(tried) = self.buffer.as_mut_slice().get_mut(..taps.len()) else {
+        let finding = &mut *self.finding;
+        let buffer = &mut *self.buffer;
+        let Some(tried) = buffer.get_mut(..taps.len()) else {
             return rt.println("    it is too long for the buffer");
         };
         tried.copy_from_slice(taps);
-        match found.try_on(&self.record, self.finding.as_slice(), tried) {
+        match found.try_on(&self.record, finding, tried) {
             Ok(0) => rt.println("    nothing is left: it cancels the run"),
             Ok(left) => println!(rt;
                 "    {left} coefficients are left: it does not cancel the run"
@@ -114,14 +102,11 @@ impl<K: Written> Bench<K> {
 
     // As many of the next words as the buffer holds.
     fn run_on<R: Print>(&mut self, rt: &R, found: &Found<K>) -> io::Result<()> {
-        let answer = found.run_on(
-            self.words.as_slice(),
-            &self.record,
-            self.finding.as_slice(),
-            self.buffer.as_mut_slice(),
-        );
-        match answer {
-            Ok(()) => show(rt, "  next words:", self.buffer.as_slice()),
+        let words = &mut *self.words;
+        let finding = &mut *self.finding;
+        let buffer = &mut *self.buffer;
+        match found.run_on(words, &self.record, finding, buffer) {
+            Ok(()) => show(rt, "  next words:", buffer),
             Err(refusal) => refused(rt, refusal),
         }
     }
@@ -133,14 +118,13 @@ impl<K: Written> Bench<K> {
         open: Open<K>,
         sheet: &Sheet<'_, K::Elem>,
     ) -> io::Result<Open<K>> {
-        let answer = open.find(
-            self.words.as_slice(),
-            &mut self.record,
-            self.finding.as_mut_slice(),
-            self.work.as_mut_slice(),
-        );
-        match answer {
+        let mut record = Record::unfound();
+        let words = &mut *self.words;
+        let finding = &mut *self.finding;
+        let work = &mut *self.work;
+        match open.find(words, &mut record, finding, work) {
             Ok(found) => {
+                self.record = record;
                 self.report(rt, &found)?;
                 self.try_taps(rt, &found, sheet.taps)?;
                 self.try_taps(rt, &found, sheet.other)?;
@@ -162,12 +146,12 @@ impl<K: Written> Bench<K> {
         stages: &mut [K::Elem],
     ) -> Result<(), Failure> {
         let mut register = Register::new(self.kind, sheet.taps, stages);
-        let mut open = Open::new(self.kind, 1, self.words.as_slice())?;
+        let mut open = Open::new(self.kind, 1, self.words)?;
         self.draw(rt, &mut open, &mut register, 4)?;
         self.feed(rt, &mut open, sheet.word)?;
         self.feed(rt, &mut open, sheet.foreign)?;
         take_back(rt, &mut open, 1)?;
-        show(rt, "  the words' memory:", self.words.as_slice())?;
+        show(rt, "  the words' memory:", self.words)?;
         self.profile(rt, &mut open)?;
         let mut open = self.look(rt, open, sheet)?;
         self.draw(rt, &mut open, &mut register, 2)?;

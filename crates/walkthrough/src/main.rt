@@ -8,7 +8,7 @@ use bits::Bits;
 use cancelling::{cancelling_sum, cancels, normalize};
 use job::{Bench, Sheet};
 use patterns::Patterns;
-use recurrence::Shape;
+use recurrence::{Record, Shape};
 use residue::Residue;
 use ring::{Kind, Refusal, is_unit};
 use std::fmt::Display;
@@ -103,16 +103,15 @@ fn numbers<R: Print>(rt: &R) -> Result<(), Failure> {
 }
 
 // Board 1's register, every second word of it, and it summed with another that is scaled.
-fn generators<R: Print + AllocGlobal>(rt: &R) -> Result<(), Failure> {
+fn generators<R: Print>(rt: &R) -> Result<(), Failure> {
     rt.println("Its pattern generator, built from the taps, and what can be built on it")?;
-    let heap = rt.alloc();
     let mut patterns = Patterns {
         kind: Residue::new(3, 2)?,
-        taps: vec![in heap; 2, 1, 1]?,
-        stages: vec![in heap; 1, 2]?,
-        others: vec![in heap; 0, 1]?,
+        taps: &[2, 1, 1],
+        stages: &mut [1, 2],
+        others: &mut [0, 1],
         by: 5,
-        buffer: vec![in heap; 0; 6]?,
+        buffer: &mut [0; 6],
     };
     patterns.build(rt)
 }
@@ -131,7 +130,7 @@ fn linear(c: u8, b: u8) -> Polynomial {
     }
 }
 
-fn polynomials<R: Print + AllocGlobal>(rt: &R) -> Result<(), Failure> {
+fn polynomials<R: Print>(rt: &R) -> Result<(), Failure> {
     rt.println("Board 3: polynomials in x modulo 3, cut at x^2")?;
     let words = [linear(1, 0), linear(1, 1), linear(1, 0), linear(1, 1)];
     let kind = Truncated::new(3, 2)?;
@@ -142,14 +141,21 @@ fn polynomials<R: Print + AllocGlobal>(rt: &R) -> Result<(), Failure> {
 }
 
 // The board's register is built, captured and found.
-fn register<R: Print + AllocGlobal>(rt: &R, kind: Truncated) -> Result<(), Failure> {
+fn register<R: Print>(rt: &R, kind: Truncated) -> Result<(), Failure> {
     let sheet = Sheet {
         taps: &[linear(2, 2), linear(0, 1), linear(1, 0)],
         other: &[linear(2, 0), linear(1, 0)],
         word: &[linear(2, 2)],
         foreign: &[linear(3, 0)],
     };
-    let mut bench = Bench::new(rt.alloc(), kind)?;
+    let mut bench = Bench {
+        kind,
+        words: &mut [linear(0, 0); 8],
+        finding: &mut [linear(0, 0); 32],
+        work: &mut [linear(0, 0); 256],
+        buffer: &mut [linear(0, 0); 4],
+        record: Record::unfound(),
+    };
     bench.follow(rt, &sheet, &mut [linear(1, 0), linear(1, 1)])
 }
 
@@ -161,11 +167,15 @@ fn mistake<R: Print>(rt: &R) -> io::Result<()> {
     }
 }
 
-fn main(rt: HostRuntime) -> Result<(), Failure> {
-    numbers(&rt)?;
-    generators(&rt)?;
-    planes(&rt)?;
-    polynomials(&rt)?;
-    mistake(&rt)?;
+fn whole_job<R: Print>(rt: &R) -> Result<(), Failure> {
+    numbers(rt)?;
+    generators(rt)?;
+    planes(rt)?;
+    polynomials(rt)?;
+    mistake(rt)?;
     Ok(())
+}
+
+fn main(rt: HostRuntime) -> io::Result<()> {
+    whole_job(&rt).or_else(|failure| failure.tell(&rt))
 }

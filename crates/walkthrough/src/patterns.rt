@@ -9,13 +9,13 @@ use vectors::{Failure, Written};
 // A register's taps, its stages, those of a second register, the factor of that one, and a buffer for words.
 // The stages are lent again and again, so that each source goes on where the one before it stopped.
 #[derive(Drop)]
-pub struct Patterns<K: Kind> {
+pub struct Patterns<'t, 's, 'o, 'b, K: Kind> {
     pub kind: K,
-    pub taps: Vec<K::Elem>,
-    pub stages: Vec<K::Elem>,
-    pub others: Vec<K::Elem>,
+    pub taps: &'t [K::Elem],
+    pub stages: &'s mut [K::Elem],
+    pub others: &'o mut [K::Elem],
     pub by: K::Elem,
-    pub buffer: Vec<K::Elem>,
+    pub buffer: &'b mut [K::Elem],
 }
 
 // As many words of a source as the buffer holds.
@@ -31,38 +31,30 @@ fn words_of<K: Written, S: Source<K>, R: Print>(
     Ok(())
 }
 
-impl<K: Written> Patterns<K> {
+impl<'t, 's, 'o, 'b, K: Written> Patterns<'t, 's, 'o, 'b, K> {
     fn plain<R: Print>(&mut self, rt: &R) -> Result<(), Failure> {
-        let taps = self.taps.as_slice();
-        let mut register = Register::new(self.kind, taps, self.stages.as_mut_slice());
-        words_of(
-            rt,
-            "  the register:",
-            &mut register,
-            self.buffer.as_mut_slice(),
-        )
+        let mut register = Register::new(self.kind, self.taps, self.stages);
+        words_of(rt, "  the register:", &mut register, self.buffer)
     }
 
     fn strided<R: Print>(&mut self, rt: &R) -> Result<(), Failure> {
-        let taps = self.taps.as_slice();
-        let register = Register::new(self.kind, taps, self.stages.as_mut_slice());
+        let register = Register::new(self.kind, self.taps, self.stages);
         words_of(
             rt,
             "  every second word of it from here on:",
             &mut Stride::new(register, 2),
-            self.buffer.as_mut_slice(),
+            self.buffer,
         )
     }
 
     fn summed<R: Print>(&mut self, rt: &R) -> Result<(), Failure> {
-        let taps = self.taps.as_slice();
-        let register = Register::new(self.kind, taps, self.stages.as_mut_slice());
-        let other = Register::new(self.kind, taps, self.others.as_mut_slice());
+        let register = Register::new(self.kind, self.taps, self.stages);
+        let other = Register::new(self.kind, self.taps, self.others);
         words_of(
             rt,
             "  it goes on, and a second register times a factor is added:",
             &mut Sum::new(register, Scaling::new(other, self.by)),
-            self.buffer.as_mut_slice(),
+            self.buffer,
         )
     }
 
