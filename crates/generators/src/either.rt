@@ -16,7 +16,7 @@ impl<K: Kind, A: Source<K>, B: Source<K>> Source<K> for Either<A, B> {
 
     ghost list = { elim [ First a ↦ A.Source.list a | Second b ↦ B.Source.list b ] };
 
-    #[inline(always)]
+    #[inline]
     fn kind(&self) -> K {
         match self {
             Either::First(a) => a.kind(),
@@ -24,7 +24,7 @@ impl<K: Kind, A: Source<K>, B: Source<K>> Source<K> for Either<A, B> {
         }
     }
 
-    #[inline(always)]
+    #[inline]
     fn next(&mut self) -> K::Elem {
         match self {
             Either::First(a) => a.next(),

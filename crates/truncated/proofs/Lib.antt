@@ -2,6 +2,5 @@ pub mod Places
 pub mod Adding
 pub mod Inverting
 pub mod Splitting
-pub mod Testing
 pub mod Filling
 pub mod Modulo

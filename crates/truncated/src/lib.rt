@@ -209,8 +209,13 @@ impl Kind for Truncated {
     }
 
     fn is_lawful(&self, a: Polynomial) -> bool {
-        let (low, high) = a.coefficients.split_at(self.depth);
-        low.iter().all(|c| u32::from(*c) < self.base.value) && high.iter().all(|c| *c == 0)
+        for j in 0..8usize {
+            let bound = if j < self.depth { self.base.value } else { 1 };
+            if a.coefficients[j] as u32 >= bound {
+                return false;
+            }
+        }
+        true
     }
 
     fn depth(&self) -> usize {

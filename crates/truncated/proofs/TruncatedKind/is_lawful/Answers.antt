@@ -1,24 +1,24 @@
-use Rattle.std.proofs.Common.{◌≡◌, ◌<◌, ◌≤◌, ◌≢◌, length, rules}
-use borrow.Author.Tests.{tests}
-use Rattle.std.proofs.lemmas.Iterator.{YieldsList-from_slice, cases_from_all}
-use Rattle.truncated.proofs.Testing.{front_fails, parts_fit}
+use Rattle.std.proofs.Common.{◌≡◌, ℕ, ◌≤◌, length, get_or, arith, rules}
+use Rattle.truncated.specs.Polynomials.{bound}
+use Rattle.truncated.specs.Laws.{bound_low, bound_high}
+use Rattle.truncated.proofs.Places.{all_fit, one_does_not}
 use Rattle.truncated.proofs.TruncatedKind.is_lawful.Goals as goal
+use Rattle.truncated.proofs.TruncatedKind.is_lawful.Goals.{then-j-self, else-j-self}
 
-pub returns-then-all : goal.returns-then-all
-returns-then-all c =
+pub returns-then-a-j : goal.returns-then-a-j
+returns-then-a-j c =
+    let k = c.args.self.now in
+    let p : ℕ = k.base.value in
+    let d : ℕ = k.depth in
+    let past : bound k.base.value k.depth c.loop-j.j ≤ get_or c.args.a.coefficients c.loop-j.j 0 =
+    elim c.if-j-self.branch [
+      | then-j-self w ↦ let e = bound_low p d c.loop-j.j w.if-j-self.true in omega (arith, e, w.bound-is, c.if-a-j.true)
+      | else-j-self w ↦ let e = bound_high p d c.loop-j.j w.if-j-self.false in omega (arith, e, w.bound-is, c.if-a-j.true)
+    ] in
+    one_does_not k.base.value k.base.ok.0 k.depth c.args.a c.loop-j.j (omega arith) past
+
+pub returns : goal.returns
+returns c =
     let k = c.args.self.now in
     let long : length c.args.a.coefficients ≡ 8 = search rules in
-    let parts = c.split_at.ensures in
-    let low = cases_from_all _ _ c.all.result (λ x. x < k.base.value) (λ x. k.base.value ≤ x) c.all.ensures.ran (YieldsList-from_slice c.split_at.result.0.now (cc)) (λ x q t. search (rules, tests)) (λ x q t. search (rules, tests)) in
-    let high = cases_from_all _ _ c.all-then-all.result (λ x. x ≡ 0) (λ x. x ≢ 0) c.all-then-all.ensures.ran (YieldsList-from_slice c.split_at.result.1.now cc) (λ x q t. search (rules, tests)) (λ x q t. search (rules, tests)) in
-    parts_fit k.base.value k.base.ok.0 k.depth k.ok.1 c.args.a long c.split_at.result.0.now c.split_at.result.1.now c.all-then-all.result
-    parts.front_len (cc) parts.by_index.1 parts.by_index.2 (rw c.if-all.true at low) high
-
-pub returns-else-all : goal.returns-else-all
-returns-else-all c =
-    let k = c.args.self.now in
-    let long : length c.args.a.coefficients ≡ 8 = search rules in
-    let parts = c.split_at.ensures in
-    let low = cases_from_all _ _ c.all.result (λ x. x < k.base.value) (λ x. k.base.value ≤ x) c.all.ensures.ran (YieldsList-from_slice c.split_at.result.0.now (cc)) (λ x q t. search (rules, tests)) (λ x q t. search (rules, tests)) in
-    let one = rw c.if-all.false at low in
-    rw c.if-all.false (front_fails k.base.value k.base.ok.0 k.depth k.ok.1 c.args.a long c.split_at.result.0.now parts.front_len parts.by_index.1 one.0 one.1 one.2)
+    all_fit k.base.value k.base.ok.0 k.depth c.args.a long (λ j lt. c.loop-j.invariant j (omega arith))
